@@ -1,4 +1,4 @@
--- The limits that every net keeps.
+-- The limits that every net and every crew keeps.
 use Prim.Native.Nat.{ℕ, _≤_, _<_}
 use native.Mathlib.Omega.{arith}
 use mathlib.Core.Path.{_≡_}
@@ -16,6 +16,10 @@ most-label = 63
 
 abbrev pub most-total : ℕ
 most-total = 4
+
+-- the most tokens that a crew holds
+abbrev pub most-tokens : ℕ
+most-tokens = 4096
 
 -- A transition among n places: its own place and the places that it puts tokens on are among them.
 pub record Within (n : ℕ) (t : Transition) : Type 0 where

@@ -31,18 +31,19 @@ plain r = record { refusal = r; spot = None }
 abbrev pub at-spot : Refusal → ℕ → Fault
 at-spot r k = record { refusal = r; spot = Some k }
 
--- A reason for which a call can be refused, and when it is met.
+-- A reason for which a call can be refused: the fault that it gives, and when it is met.
 pub record Row : Type 1 where
-  pub refusal : Refusal
+  pub fault : Fault
   pub met : Type 0
 
+-- a reason that names no spot
 abbrev pub when : Refusal → Type 0 → Row
-when r met = record { refusal = r; met = met }
+when r met = record { fault = plain r; met = met }
 
--- r is the first reason that is met
-abbrev pub First : List Row → Refusal → Type 0
-First [] r = ⊥
-First (w ∷ rows) r = (w .met × (w .refusal ≡ r)) ⊎ (¬ (w .met) × First rows r)
+-- f is the fault of the first reason that is met
+abbrev pub First : List Row → Fault → Type 0
+First [] f = ⊥
+First (w ∷ rows) f = (w .met × (w .fault ≡ f)) ⊎ (¬ (w .met) × First rows f)
 
 -- none is met
 abbrev pub Free : List Row → Type 0
@@ -52,4 +53,4 @@ Free (w ∷ rows) = ¬ (w .met) × Free rows
 -- the reasons stand in the order of their numbers, all above n
 abbrev pub Rising : ℕ → List Row → Type 0
 Rising n [] = Unit {0}
-Rising n (w ∷ rows) = (n < number-of (w .refusal)) × Rising (number-of (w .refusal)) rows
+Rising n (w ∷ rows) = (n < number-of (w .fault .refusal)) × Rising (number-of (w .fault .refusal)) rows

@@ -13,6 +13,7 @@ pub use joined::JoinedNet;
 pub use joined::fit;
 pub use limits::MOST_LABEL;
 pub use limits::MOST_PLACES;
+pub use limits::MOST_TOKENS;
 pub use limits::MOST_TOTAL;
 pub use limits::MOST_TRANSITIONS;
 pub use refusal::Fault;
