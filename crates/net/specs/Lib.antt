@@ -1,6 +1,7 @@
 pub mod Meaning
 pub mod Limits
 pub mod Lists
+pub mod Markings
 pub mod Refusals
 pub mod Rings
 pub mod RingLaws

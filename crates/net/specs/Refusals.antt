@@ -4,6 +4,8 @@ use mathlib.Core.Path.{_≡_}
 use mathlib.Core.Logic.{_⊎_}
 use mathlib.Core.List.{List, [], _∷_}
 use Rattle.std.specs.declared.option.Option.the-variants.{Some, None}
+use Rattle.std.specs.declared.result.Result.{Result}
+use Rattle.std.specs.declared.result.Result.the-variants.{Ok, Err}
 use Rattle.net.specs.declared.refusal.Refusal.{Refusal}
 use Rattle.net.specs.declared.refusal.Refusal.the-variants.{PartialRecord, MalformedRecord, UndeclaredPlace, OverLimit, Unfit, UnknownSide, OutOfRange, TooFewTokens, CrewsApart, TooManyTokens, ShortList, UnlawfulSheet, UnknownLine}
 use Rattle.net.specs.declared.refusal.Fault.{Fault}
@@ -49,6 +51,11 @@ First (w ∷ rows) f = (w .met × (w .fault ≡ f)) ⊎ (¬ (w .met) × First ro
 abbrev pub Free : List Row → Type 0
 Free [] = Unit {0}
 Free (w ∷ rows) = ¬ (w .met) × Free rows
+
+-- the answer of a test of these reasons: the first fault, or that none is met
+abbrev pub Tried : List Row → Result (Unit {0}) Fault → Type 0
+Tried rows (Ok _) = Free rows
+Tried rows (Err f) = First rows f
 
 -- the reasons stand in the order of their numbers, all above n
 abbrev pub Rising : ℕ → List Row → Type 0

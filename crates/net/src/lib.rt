@@ -17,6 +17,8 @@ pub use limits::MOST_TOKENS;
 pub use limits::MOST_TOTAL;
 pub use limits::MOST_TRANSITIONS;
 pub use refusal::Fault;
+pub use refusal::FaultDebug;
+pub use refusal::FaultPartialEq;
 pub use refusal::Refusal;
 pub use ring::Ring;
 pub use ring::RingNet;

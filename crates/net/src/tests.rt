@@ -1,6 +1,4 @@
 use super::*;
-use crate::refusal::FaultDebug;
-use crate::refusal::FaultPartialEq;
 use std::test::*;
 
 // A ring has as many places as it was asked for, up to the limits, and none beyond them.

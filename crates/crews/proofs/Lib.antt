@@ -1,0 +1,3 @@
+pub mod PutDown
+pub mod Tables
+pub mod Steps

@@ -1,0 +1,143 @@
+-- How each call of the bench ends.
+use Prim.Native.Nat.{ℕ, _+_, _-_, _<_, _≤_}
+use native.Mathlib.Omega.{arith}
+use mathlib.Core.Path.{_≡_, refl, sym, ap, subst, _∙_}
+use mathlib.Core.Logic.{inl, inr}
+use mathlib.Core.List.{List, [], _∷_, _++_}
+use lib.ListN.{length, getD, set}
+use Rattle.std.specs.shelf.Lists.{sum}
+use Rattle.net.specs.Meaning.{Meaning, transition, count-of, total-of}
+use Rattle.net.specs.Limits.{Lawful}
+use Rattle.net.specs.Markings.{more, fewer, fired}
+use Rattle.net.specs.Refusals.{Row, First, Free, plain}
+use Rattle.net.specs.declared.refusal.Fault.{Fault}
+use Rattle.net.specs.declared.refusal.Refusal.the-variants.{TooFewTokens, TooManyTokens}
+use Rattle.net.proofs.Markings.{sum-more, sum-fired}
+use Rattle.net.proofs.Refusals.{first-front, first-back, free-append}
+use Rattle.crews.specs.Crews.{Crews, on-side, with-side}
+use Rattle.crews.specs.Calls.{unknown, lacking, crowded, Meets, Tried-in-order}
+use Rattle.crews.specs.Tally.{Step, refused, put, taken, moved, counted}
+use Rattle.crews.specs.Shows.{Holds, Shows, Steps, table-on, with-table}
+use Rattle.crews.specs.declared.bench.Bench.{Bench}
+use Rattle.crews.specs.declared.crew.Crew.{Crew}
+use Rattle.crews.specs.declared.call.Call.{Call}
+use Rattle.crews.specs.declared.call.Call.the-variants.{Put, Take, Fire, Count}
+use Rattle.crews.specs.declared.call.Answer.the-variants.{Done, Tokens, Refused}
+use Rattle.crews.proofs.Tables.{holds-getD, holds-sum, holds-set, holds-fired, shows-side, shows-with}
+
+pub tried-in-order : Tried-in-order
+tried-in-order m c (Put s p k) = (omega arith, (omega arith, (omega arith, tt)))
+tried-in-order m c (Take s p k) = (omega arith, (omega arith, (omega arith, tt)))
+tried-in-order m c (Fire s t) = (omega arith, (omega arith, (omega arith, (omega arith, tt))))
+tried-in-order m c (Count s p) = (omega arith, (omega arith, tt))
+
+-- ## Refused
+
+pub stays : {N : Type 0} (m : Meaning) (b : Bench N) (call : Call) (f : Fault) → ((c : Crews) → Shows m b c → First (Meets m c call) f) → Steps m b call (Refused f) b
+stays m b call f first c h = (c, h, refused f (first c h))
+
+below : {n s i : ℕ} → Free (unknown n s i) → i < n
+below free = omega (arith, free .1 .0)
+
+pub unknown-steps : {N : Type 0} (m : Meaning) (b : Bench N) (call : Call) (n s i : ℕ) (rest : Crews → List Row) (f : Fault)
+    → ((c : Crews) → Meets m c call ≡ unknown n s i ++ rest c) → First (unknown n s i) f → Steps m b call (Refused f) b
+unknown-steps m b call n s i rest f rows first = stays m b call f (λ c h. subst (λ (ws : List Row). First ws f) (sym (rows c)) (first-front (unknown n s i) (rest c) f first))
+
+-- ## Accepted, and refused by what the table holds: y is the table on the side, x the one that comes in its place
+
+module _ {N : Type 0} (m : Meaning) (b : Bench N) (s : ℕ) (y : Crew) (ey : y ≡ table-on b s) where
+  same-getD : (p : ℕ) (c : Crews) → p < m .places → Shows m b c → getD (y .counts) p 0 ≡ getD (on-side c s) p 0
+  same-getD p c l h = holds-getD (m .places) (y .counts) (on-side c s) p (shows-side m b s y c ey h) l
+
+  sum-with : (p k : ℕ) (c : Crews) → p < m .places → Shows m b c → sum (more (on-side c s) p k) ≡ sum (y .counts) + k
+  sum-with p k c l h =
+      let held = shows-side m b s y c ey h in
+      omega (arith, sum-more (on-side c s) p k (omega (arith, held .each, l)), holds-sum (m .places) (y .counts) (on-side c s) held)
+
+  sum-after : (t : ℕ) (c : Crews) → Lawful m → t < count-of m → Shows m b c → sum (fired m t (y .counts)) ≡ sum (fired m t (on-side c s))
+  sum-after t c law known h =
+      holds-sum (m .places) (fired m t (y .counts)) (fired m t (on-side c s)) (holds-fired m t (y .counts) (on-side c s) law known (shows-side m b s y c ey h))
+
+  -- a table that was changed on one place
+  shows-set : (b′ : Bench N) (x : Crew) (p old new : ℕ) (c : Crews) → b′ ≡ with-table b s x → x .counts ≡ set (y .counts) p old → old ≡ new → p < m .places → Shows m b c
+      → Shows m b′ (with-side c s (set (on-side c s) p new))
+  shows-set b′ x p old new c eb e same l h =
+      shows-with m b b′ s x c (set (on-side c s) p new) eb h
+      (subst (λ xs. Holds (m .places) xs (set (on-side c s) p new)) (sym (e ∙ ap (set (y .counts) p) same))
+      (holds-set (m .places) (y .counts) (on-side c s) p new (shows-side m b s y c ey h) l))
+
+  -- ### Put
+
+  pub put-refused : (p k : ℕ) (f : Fault) → f ≡ plain TooManyTokens → Free (unknown (m .places) s p) → 4096 < sum (y .counts) + k → Steps m b (Put s p k) (Refused f) b
+  put-refused p k f ef free many = stays m b (Put s p k) f
+      (λ c h. first-back (unknown (m .places) s p) (crowded (more (on-side c s) p k)) f free
+      (inl (omega (arith, many, sum-with p k c (below free) h), sym ef)))
+
+  pub put-steps : (b′ : Bench N) (x : Crew) (p k : ℕ) → b′ ≡ with-table b s x → x .counts ≡ more (y .counts) p k → Free (unknown (m .places) s p) → sum (y .counts) + k ≤ 4096
+      → Steps m b (Put s p k) Done b′
+  put-steps b′ x p k eb e free few c h =
+      let l = below free in (
+        with-side c s (more (on-side c s) p k),
+        shows-set b′ x p (getD (y .counts) p 0 + k) (getD (on-side c s) p 0 + k) c eb e (omega (arith, same-getD p c l h)) l h,
+        put s p k (free-append (unknown (m .places) s p) (crowded (more (on-side c s) p k)) free ((λ q. omega (arith, q, few, sum-with p k c l h)), tt)),
+      )
+
+  -- ### Take
+
+  pub take-refused : (p k : ℕ) (f : Fault) → f ≡ plain TooFewTokens → Free (unknown (m .places) s p) → getD (y .counts) p 0 < k → Steps m b (Take s p k) (Refused f) b
+  take-refused p k f ef free short = stays m b (Take s p k) f
+      (λ c h. first-back (unknown (m .places) s p) (lacking (on-side c s) p k) f free
+      (inl (omega (arith, short, same-getD p c (below free) h), sym ef)))
+
+  pub take-steps : (b′ : Bench N) (x : Crew) (p k : ℕ) → b′ ≡ with-table b s x → x .counts ≡ fewer (y .counts) p k → Free (unknown (m .places) s p) → k ≤ getD (y .counts) p 0
+      → Steps m b (Take s p k) Done b′
+  take-steps b′ x p k eb e free enough c h =
+      let l = below free in
+      let same = same-getD p c l h in (
+        with-side c s (fewer (on-side c s) p k),
+        shows-set b′ x p (getD (y .counts) p 0 - k) (getD (on-side c s) p 0 - k) c eb e (omega (arith, same)) l h,
+        taken s p k (free-append (unknown (m .places) s p) (lacking (on-side c s) p k) free ((λ q. omega (arith, q, enough, same)), tt)),
+      )
+
+  -- ### Count
+
+  pub count-steps : (p k : ℕ) → k ≡ getD (y .counts) p 0 → Free (unknown (m .places) s p) → Steps m b (Count s p) (Tokens k) b
+  count-steps p k e free c h =
+      (c, h, subst (λ (j : ℕ). Step m c (Count s p) (Tokens j) c) (sym (e ∙ same-getD p c (below free) h)) (counted s p free))
+
+  -- ### Fire, of a transition t that there is; the crew on the side has a token on its place
+
+  module _ (t : ℕ) (law : Lawful m) (free : Free (unknown (count-of m) s t)) where
+    same-tokens : (c : Crews) → Shows m b c → getD (y .counts) (transition m t .place) 0 ≡ getD (on-side c s) (transition m t .place) 0
+    same-tokens c h = same-getD (transition m t .place) c (law .each t (below free) .place-known) h
+
+    pub fire-lacking : (f : Fault) → f ≡ plain TooFewTokens → getD (y .counts) (transition m t .place) 0 < 1 → Steps m b (Fire s t) (Refused f) b
+    fire-lacking f ef none = stays m b (Fire s t) f
+        (λ c h. first-back (unknown (count-of m) s t) (lacking (on-side c s) (transition m t .place) 1 ++ crowded (fired m t (on-side c s))) f free
+        (inl (omega (arith, none, same-tokens c h), sym ef)))
+
+    module _ (there : 1 ≤ getD (y .counts) (transition m t .place) 0) where
+      token : (c : Crews) → Shows m b c → Free (lacking (on-side c s) (transition m t .place) 1)
+      token c h = ((λ q. omega (arith, q, there, same-tokens c h)), tt)
+
+      pub fire-crowded : (f : Fault) → f ≡ plain TooManyTokens → 4096 < sum (fired m t (y .counts)) → Steps m b (Fire s t) (Refused f) b
+      fire-crowded f ef many = stays m b (Fire s t) f
+          (λ c h. first-back (unknown (count-of m) s t) (lacking (on-side c s) (transition m t .place) 1 ++ crowded (fired m t (on-side c s))) f free
+          (first-back (lacking (on-side c s) (transition m t .place) 1) (crowded (fired m t (on-side c s))) f (token c h)
+          (inl (omega (arith, many, sum-after t c law (below free) h), sym ef))))
+
+      pub fire-steps : (b′ : Bench N) (x : Crew) → b′ ≡ with-table b s x → x .counts ≡ fired m t (y .counts) → sum (fired m t (y .counts)) ≤ 4096 → Steps m b (Fire s t) Done b′
+      fire-steps b′ x eb e few c h = (
+        with-side c s (fired m t (on-side c s)),
+        shows-with m b b′ s x c (fired m t (on-side c s)) eb h
+            (subst (λ xs. Holds (m .places) xs (fired m t (on-side c s))) (sym e) (holds-fired m t (y .counts) (on-side c s) law (below free) (shows-side m b s y c ey h))),
+        moved s t (free-append (unknown (count-of m) s t) (lacking (on-side c s) (transition m t .place) 1 ++ crowded (fired m t (on-side c s))) free
+            (free-append (lacking (on-side c s) (transition m t .place) 1) (crowded (fired m t (on-side c s))) (token c h)
+            ((λ q. omega (arith, q, few, sum-after t c law (below free) h)), tt))),
+      )
+
+-- how many tokens a table holds when a transition has fired
+pub sum-fired-table : (m : Meaning) (s t : ℕ) (ys : List ℕ) → Lawful m → Free (unknown (count-of m) s t) → length ys ≡ 128 → 1 ≤ getD ys (transition m t .place) 0
+    → sum (fired m t ys) + 1 ≡ sum ys + total-of (transition m t)
+sum-fired-table m s t ys law free whole there =
+    sum-fired m t ys (omega (arith, law .each t (below free) .place-known, law .few-places, whole)) there

@@ -1,0 +1,4 @@
+pub mod Crews
+pub mod Calls
+pub mod Tally
+pub mod Shows

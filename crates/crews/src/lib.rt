@@ -1,0 +1,8 @@
+// The bench: two crews of tokens on a net, and the calls that move them.
+mod bench;
+mod call;
+mod crew;
+
+pub use bench::Bench;
+pub use call::Answer;
+pub use call::Call;
