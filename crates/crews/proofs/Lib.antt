@@ -1,3 +1,4 @@
 pub mod PutDown
 pub mod Tables
 pub mod Steps
+pub mod Replaying

@@ -1,0 +1,69 @@
+// Calls as values: one performed on a bench, or a list of them from an empty bench on.
+ghost use mathlib.Core.Path.{_≡_};
+ghost use Rattle.crews.specs.Calls.{Tried-in-order};
+ghost use Rattle.crews.specs.Shows.{Steps, Extends, ReplayedOr, done-or, tokens-or};
+use crate::Answer;
+use crate::Bench;
+use crate::Call;
+use net::Fault;
+use net::Net;
+use net::Refusal;
+
+fn done(r: Result<(), Fault>) -> Answer
+    ensures { λ a. ⌜ a ≡ done-or r ⌝ }
+{
+    match r {
+        Ok(()) => Answer::Done,
+        Err(f) => Answer::Refused(f),
+    }
+}
+
+fn tokens(r: Result<u16, Fault>) -> Answer
+    ensures { λ a. ⌜ a ≡ tokens-or r ⌝ }
+{
+    match r {
+        Ok(k) => Answer::Tokens(k),
+        Err(f) => Answer::Refused(f),
+    }
+}
+
+// Makes a call by the bench's method for it.
+fn answer<N: Net>(bench: &mut Bench<N>, call: Call) -> Answer
+    ensures same { λ _. ⌜ now (bench .exit) .net ≡ now (bench .entry) .net ⌝ }
+    ensures steps { λ r. ⌜ Steps (N·Net .meaning (now (bench .entry) .net)) (now (bench .entry)) call r (now (bench .exit)) ⌝ }
+{
+    match call {
+        Call::Put { side, place, count } => done(bench.put(side, place, count)),
+        Call::Take { side, place, count } => done(bench.take(side, place, count)),
+        Call::Fire { side, transition } => done(bench.fire(side, transition)),
+        Call::Count { side, place } => tokens(bench.count(side, place)),
+    }
+}
+
+// Performs one call. Whatever calls and answers led from empty crews to those of the bench, with this one they lead to those that it holds then.
+pub fn perform<N: Net>(bench: &mut Bench<N>, call: Call) -> Answer
+    ensures same { λ _. ⌜ now (bench .exit) .net ≡ now (bench .entry) .net ⌝ }
+    ensures extends { λ r. ⌜ Extends (N·Net .meaning (now (bench .entry) .net)) (now (bench .entry)) call r (now (bench .exit)) ⌝ }
+    ensures order { λ _. ⌜ Tried-in-order ⌝ }
+{
+    answer(bench, call)
+}
+
+// Performs the calls in order on a bench just made, writes their answers into the front of the list, and gives the bench back.
+// Refused where the list is shorter than the calls.
+pub fn replay<N: Net + Drop>(
+    net: N,
+    calls: &[Call],
+    answers: &mut [Answer],
+) -> Result<Bench<N>, Fault>
+    ensures { λ r. ⌜ ReplayedOr (N·Net .meaning net) (now (calls .entry)) (now (answers .entry)) (now (answers .exit)) r ⌝ }
+{
+    if answers.len() < calls.len() {
+        return Err(Fault::plain(Refusal::ShortList));
+    }
+    let mut bench = Bench::new(net);
+    for i in 0..calls.len() {
+        answers[i] = perform(&mut bench, calls[i]);
+    }
+    Ok(bench)
+}
