@@ -43,6 +43,7 @@ fn answer<N: Net>(bench: &mut Bench<N>, call: Call) -> Answer
 // Performs one call. Whatever calls and answers led from empty crews to those of the bench, with this one they lead to those that it holds then.
 pub fn perform<N: Net>(bench: &mut Bench<N>, call: Call) -> Answer
     ensures same { λ _. ⌜ now (bench .exit) .net ≡ now (bench .entry) .net ⌝ }
+    ensures steps { λ r. ⌜ Steps (N·Net .meaning (now (bench .entry) .net)) (now (bench .entry)) call r (now (bench .exit)) ⌝ }
     ensures extends { λ r. ⌜ Extends (N·Net .meaning (now (bench .entry) .net)) (now (bench .entry)) call r (now (bench .exit)) ⌝ }
     ensures order { λ _. ⌜ Tried-in-order ⌝ }
 {
