@@ -1,0 +1,13 @@
+pub mod Below
+pub mod Sums
+pub mod Partitions
+pub mod Closures
+pub mod Stages
+pub mod Rounds
+pub mod Tables
+pub mod Classes
+pub mod Follow
+pub mod Greedy
+pub mod Cells
+pub mod Pairings
+pub mod Theorems

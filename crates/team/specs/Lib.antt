@@ -1,0 +1,11 @@
+pub mod Below
+pub mod Relations
+pub mod Markings
+pub mod Closure
+pub mod Teams
+pub mod Stages
+pub mod Tables
+pub mod Classes
+pub mod Pairings
+pub mod Follow
+pub mod Theorems
