@@ -1,5 +1,5 @@
 -- The additive closure of an equivalence: equally many tokens in each group.
-use Prim.Native.Nat.{ℕ, zero, suc, pred, _<_}
+use Prim.Native.Nat.{ℕ, zero, suc, _+_, _-_, _<_}
 use mathlib.Core.Path.{_≡_, refl, sym, ap, _∙_, subst₂}
 use mathlib.Core.Bool.{true, cond}
 use mathlib.Core.List.{List}
@@ -17,7 +17,7 @@ use Rattle.team.proofs.Partitions.{Equivalence, in-one, one, held-more, held-l
 pub closure-length : (n : ℕ) (R : Relation) {xs ys : List ℕ} → Closure n R xs ys → (length xs ≡ n) × (length ys ≡ n)
 closure-length n R none = (length-replicate n 0, length-replicate n 0)
 closure-length n R (more {xs = xs} {ys = ys} p q l k r c) =
-    let (a, b) = closure-length n R c in (length-set xs p (suc (getD xs p 0)) ∙ a, length-set ys q (suc (getD ys q 0)) ∙ b)
+    let (a, b) = closure-length n R c in (length-set xs p (getD xs p 0 + 1) ∙ a, length-set ys q (getD ys q 0 + 1) ∙ b)
 
 -- what the closure relates has equally many tokens in each group
 pub closure-even : (n : ℕ) (R E : Relation) → Equivalence E → LiesIn R E → {xs ys : List ℕ} → Closure n R xs ys → (c : ℕ) → held n E xs c ≡ held n E ys c
@@ -47,7 +47,7 @@ module _ (n : ℕ) (E R : Relation) (eq : Equivalence E) (sub : (p q : ℕ) → 
       let (p, l, g) = tally-some n (λ i. getD xs i 0) (omega arith) in
       let (q, l′, e, g′) = met n E eq xs ys p l g (h p l) in
       let rest : Closure n R (token-less p xs) (token-less q ys) =
-      from-even k (token-less p xs) (token-less q ys) (length-set xs p (pred (getD xs p 0)) ∙ a) (length-set ys q (pred (getD ys q 0)) ∙ b)
+      from-even k (token-less p xs) (token-less q ys) (length-set xs p (getD xs p 0 - 1) ∙ a) (length-set ys q (getD ys q 0 - 1) ∙ b)
       (λ c w. omega (arith, h c w, held-less n E xs p c l (omega arith) g, held-less n E ys q c l′ (omega arith) g′, ap one (in-one E eq p q e c)))
       (omega (arith, held-less n (λ _ _. true) xs p 0 l (omega arith) g)) in
       subst₂ (Closure n R) (more-less xs p (omega arith) g) (more-less ys q (omega arith) g′) (more p q l l′ (sub p q l l′ e) rest)

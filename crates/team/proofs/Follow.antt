@@ -1,5 +1,5 @@
 -- A transition that fires on one side is followed on the other.
-use Prim.Native.Nat.{ℕ, pred, _<_}
+use Prim.Native.Nat.{ℕ, _+_, _<_}
 use mathlib.Core.Path.{_≡_, refl, sym, ap, _∙_}
 use mathlib.Core.List.{List}
 use native.Mathlib.Omega.{arith}
@@ -7,11 +7,13 @@ use lib.ListN.{length, getD}
 use Rattle.std.proofs.shelf.Lists.{length-set}
 use Rattle.net.specs.Meaning.{Meaning, transition, count-of}
 use Rattle.net.specs.Limits.{Lawful}
-use Rattle.team.specs.Markings.{MarkingOf, token-less, Enabled, fired, held}
+use Rattle.net.specs.Markings.{fired}
+use Rattle.net.proofs.Markings.{length-fired}
+use Rattle.team.specs.Markings.{MarkingOf, token-less, Enabled, held}
 use Rattle.team.specs.Teams.{Match, Paired}
 use Rattle.team.specs.Classes.{alike, Even}
 use Rattle.team.specs.Follow.{Fits}
-use Rattle.team.proofs.Partitions.{in-one, one, met, held-less, held-plus, length-plus}
+use Rattle.team.proofs.Partitions.{in-one, one, met, held-less, held-plus}
 use Rattle.team.proofs.Stages.{decides-finer}
 use Rattle.team.proofs.Rounds.{rounds-settle}
 use Rattle.team.proofs.Classes.{alike-equivalence, alike-decides, paired-even, paired-known, even-paired}
@@ -35,16 +37,13 @@ module _ (m : Meaning) (law : Lawful m) (xs ys : List ℕ) (pair : Paired m xs y
         },
       )
 
-  length-fired : (v : ℕ) (zs : List ℕ) → v < count-of m → MarkingOf m zs → MarkingOf m (fired m v zs)
-  length-fired v zs w e =
-      let puts : length (transition m v .puts) ≡ m .places = law .each v w .targets-known in
-      length-plus (token-less (transition m v .place) zs) (transition m v .puts)
-      (length-set zs (transition m v .place) (pred (getD zs (transition m v .place) 0)) ∙ e ∙ sym puts) ∙ puts
+  marking-fired : (v : ℕ) (zs : List ℕ) → v < count-of m → MarkingOf m zs → MarkingOf m (fired m v zs)
+  marking-fired v zs w e = length-fired m v zs (omega (arith, law .each v w .targets-known, e)) ∙ e
 
   pub follow-keeps : (u : ℕ) → Fits m t u ys → Paired m (fired m t xs) (fired m u ys)
   follow-keeps u f =
       let (a, b) = paired-known m law xs ys pair in
-      even-paired m law (fired m t xs) (fired m u ys) (length-fired t xs l a) (length-fired u ys (f .known) b) (λ c w. even-after c w a b)
+      even-paired m law (fired m t xs) (fired m u ys) (marking-fired t xs l a) (marking-fired u ys (f .known) b) (λ c w. even-after c w a b)
     where
       even-after : (c : ℕ) → c < m .places → MarkingOf m xs → MarkingOf m ys → held (m .places) (alike m) (fired m t xs) c ≡ held (m .places) (alike m) (fired m u ys) c
       even-after c w a b =

@@ -1,5 +1,5 @@
 -- The closure of a relation is what a table pairs through it.
-use Prim.Native.Nat.{ℕ, zero, suc, pred, _+_, _<_}
+use Prim.Native.Nat.{ℕ, zero, suc, pred, _+_, _-_, _<_}
 use mathlib.Core.Path.{_≡_, refl, sym, ap, _∙_, subst₂}
 use mathlib.Core.Bool.{Bool, true, false, cond, _&&_}
 use mathlib.Core.Logic.{inl, inr, _≢_}
@@ -70,12 +70,12 @@ closure-pairing n R (more {xs = xs} {ys = ys} p q l k r rest) =
       cell-more p q T,
       record {
         rows = λ i w. elim (cases-eq i p) [
-          | inl e ↦ rw e (row-more p q n T k ∙ omega (arith, old .rows p l, getD-set-same xs p (suc (getD xs p 0)) 0 (omega arith)))
-          | inr d ↦ row-other p q n T i d ∙ old .rows i w ∙ sym (getD-set-other xs p i (suc (getD xs p 0)) 0 d)
+          | inl e ↦ rw e (row-more p q n T k ∙ omega (arith, old .rows p l, getD-set-same xs p (getD xs p 0 + 1) 0 (omega arith)))
+          | inr d ↦ row-other p q n T i d ∙ old .rows i w ∙ sym (getD-set-other xs p i (getD xs p 0 + 1) 0 d)
         ];
         columns = λ j w. elim (cases-eq j q) [
-          | inl e ↦ rw e (column-more p q n T l ∙ omega (arith, old .columns q k, getD-set-same ys q (suc (getD ys q 0)) 0 (omega arith)))
-          | inr d ↦ column-other p q n T j d ∙ old .columns j w ∙ sym (getD-set-other ys q j (suc (getD ys q 0)) 0 d)
+          | inl e ↦ rw e (column-more p q n T l ∙ omega (arith, old .columns q k, getD-set-same ys q (getD ys q 0 + 1) 0 (omega arith)))
+          | inr d ↦ column-other p q n T j d ∙ old .columns j w ∙ sym (getD-set-other ys q j (getD ys q 0 + 1) 0 d)
         ];
         through = λ i j w v h. elim (cases-bool (at-cell p q i j)) [
           | inl y ↦ (
@@ -121,14 +121,14 @@ module _ (n : ℕ) (R : Relation) where
 
       rows′ : (i : ℕ) → i < n → tally n (U i) ≡ getD (token-less p xs) i 0
       rows′ i w = elim (cases-eq i p) [
-        | inl e ↦ rw e (omega (arith, row-more p q n U k, row-was p, P .rows p l, getD-set-same xs p (pred (getD xs p 0)) 0 (omega arith)))
-        | inr d ↦ sym (row-other p q n U i d) ∙ row-was i ∙ P .rows i w ∙ sym (getD-set-other xs p i (pred (getD xs p 0)) 0 d)
+        | inl e ↦ rw e (omega (arith, row-more p q n U k, row-was p, P .rows p l, getD-set-same xs p (getD xs p 0 - 1) 0 (omega arith)))
+        | inr d ↦ sym (row-other p q n U i d) ∙ row-was i ∙ P .rows i w ∙ sym (getD-set-other xs p i (getD xs p 0 - 1) 0 d)
       ]
 
       columns′ : (j : ℕ) → j < n → tally n (λ i. U i j) ≡ getD (token-less q ys) j 0
       columns′ j w = elim (cases-eq j q) [
-        | inl e ↦ rw e (omega (arith, column-more p q n U l, column-was q, P .columns q k, getD-set-same ys q (pred (getD ys q 0)) 0 (omega arith)))
-        | inr d ↦ sym (column-other p q n U j d) ∙ column-was j ∙ P .columns j w ∙ sym (getD-set-other ys q j (pred (getD ys q 0)) 0 d)
+        | inl e ↦ rw e (omega (arith, column-more p q n U l, column-was q, P .columns q k, getD-set-same ys q (getD ys q 0 - 1) 0 (omega arith)))
+        | inr d ↦ sym (column-other p q n U j d) ∙ column-was j ∙ P .columns j w ∙ sym (getD-set-other ys q j (getD ys q 0 - 1) 0 d)
       ]
 
   -- the tokens of xs come one after another
@@ -142,11 +142,11 @@ module _ (n : ℕ) (R : Relation) where
       let (p, l, g) = tally-some n (λ i. getD xs i 0) (omega arith) in
       let (q, l′, h) = tally-some n (T p) (omega (arith, P .rows p l)) in
       let g′ : 0 < getD ys q 0 = omega (arith, P .columns q l′, tally-at n (λ i. T i q) p l) in
-      let a′ : length (token-less p xs) ≡ n = length-set xs p (pred (getD xs p 0)) ∙ a in
-      let b′ : length (token-less q ys) ≡ n = length-set ys q (pred (getD ys q 0)) ∙ b in
+      let a′ : length (token-less p xs) ≡ n = length-set xs p (getD xs p 0 - 1) ∙ a in
+      let b′ : length (token-less q ys) ≡ n = length-set ys q (getD ys q 0 - 1) ∙ b in
       let one-less : tally n (λ i. getD xs i 0) ≡ tally n (λ i. getD (token-less p xs) i 0) + 1 =
-      tally-more n (λ i. getD (token-less p xs) i 0) (λ i. getD xs i 0) p 1 l (omega (arith, getD-set-same xs p (pred (getD xs p 0)) 0 (omega arith)))
-      (λ i d. sym (getD-set-other xs p i (pred (getD xs p 0)) 0 d)) in
+      tally-more n (λ i. getD (token-less p xs) i 0) (λ i. getD xs i 0) p 1 l (omega (arith, getD-set-same xs p (getD xs p 0 - 1) 0 (omega arith)))
+      (λ i d. sym (getD-set-other xs p i (getD xs p 0 - 1) 0 d)) in
       let rest : Closure n R (token-less p xs) (token-less q ys) =
       from-pairing k (token-less p xs) (token-less q ys) (cell-less p q T) a′ b′ (pairing-less xs ys T a b P p q l l′ h) (omega arith) in
       subst₂ (Closure n R) (more-less xs p (omega arith) g) (more-less ys q (omega arith) g′) (more p q l l′ (P .through p q l l′ h) rest)

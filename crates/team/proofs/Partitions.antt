@@ -1,5 +1,5 @@
 -- Equivalences as partitions: the counts in a group, and its lowest place.
-use Prim.Native.Nat.{ℕ, zero, suc, pred, _+_, _≤_, _<_}
+use Prim.Native.Nat.{ℕ, zero, suc, _+_, _≤_, _<_, _-_}
 use mathlib.Core.Path.{_≡_, refl, sym, ap, _∙_}
 use mathlib.Core.Bool.{Bool, true, false, cond}
 use mathlib.Core.Logic.{_⊎_, inl, inr}
@@ -10,7 +10,8 @@ use Rattle.std.proofs.shelf.Lists.{length-set, getD-set-same, getD-set-other, s
 use Rattle.std.proofs.shelf.Tests.{cases-bool, cases-lt, cases-order, both-ways}
 use Rattle.team.specs.Below.{some, first, tally}
 use Rattle.team.specs.Relations.{Relation, LiesIn, SameAmong}
-use Rattle.team.specs.Markings.{token-more, token-less, plus, held}
+use Rattle.net.specs.Markings.{plus}
+use Rattle.team.specs.Markings.{token-more, token-less, held}
 use Rattle.team.proofs.Below.{decides-some, first-is}
 use Rattle.team.proofs.Sums.{tally-cong, tally-more, tally-at, tally-add, tally-some, tally-lt, cond-plus, cond-some}
 
@@ -35,24 +36,24 @@ in-one E eq p q e c = go (cases-bool (E c p)) (cases-bool (E c q))
 abbrev pub one : Bool → ℕ
 one b = cond b 1 0
 
-cond-suc : (b : Bool) (x : ℕ) → cond b (suc x) 0 ≡ cond b x 0 + one b
-cond-suc true x = omega arith
-cond-suc false x = refl
+cond-more : (b : Bool) (x : ℕ) → cond b (x + 1) 0 ≡ cond b x 0 + one b
+cond-more true x = refl
+cond-more false x = refl
 
 pub held-more : (n : ℕ) (E : Relation) (xs : List ℕ) (p c : ℕ) → p < n → n ≤ length xs → held n E (token-more p xs) c ≡ held n E xs c + one (E c p)
 held-more n E xs p c l e =
     tally-more n (λ i. cond (E c i) (getD xs i 0) 0) (λ i. cond (E c i) (getD (token-more p xs) i 0) 0) p (one (E c p)) l
-    (ap (λ x. cond (E c p) x 0) (getD-set-same xs p (suc (getD xs p 0)) 0 (omega arith)) ∙ cond-suc (E c p) (getD xs p 0))
-    (λ i d. ap (λ x. cond (E c i) x 0) (getD-set-other xs p i (suc (getD xs p 0)) 0 d))
+    (ap (λ x. cond (E c p) x 0) (getD-set-same xs p (getD xs p 0 + 1) 0 (omega arith)) ∙ cond-more (E c p) (getD xs p 0))
+    (λ i d. ap (λ x. cond (E c i) x 0) (getD-set-other xs p i (getD xs p 0 + 1) 0 d))
 
 pub more-less : (xs : List ℕ) (p : ℕ) → p < length xs → 0 < getD xs p 0 → token-more p (token-less p xs) ≡ xs
 more-less xs p l h =
-    let s : suc (getD (token-less p xs) p 0) ≡ getD xs p 0 = omega (arith, getD-set-same xs p (pred (getD xs p 0)) 0 l) in
-    set-set xs p (pred (getD xs p 0)) (suc (getD (token-less p xs) p 0)) ∙ ap (set xs p) s ∙ set-getD xs p 0
+    let s : getD (token-less p xs) p 0 + 1 ≡ getD xs p 0 = omega (arith, getD-set-same xs p (getD xs p 0 - 1) 0 l) in
+    set-set xs p (getD xs p 0 - 1) (getD (token-less p xs) p 0 + 1) ∙ ap (set xs p) s ∙ set-getD xs p 0
 
 pub held-less : (n : ℕ) (E : Relation) (xs : List ℕ) (p c : ℕ) → p < n → n ≤ length xs → 0 < getD xs p 0 → held n E xs c ≡ held n E (token-less p xs) c + one (E c p)
 held-less n E xs p c l e h =
-    ap (λ v. held n E v c) (sym (more-less xs p (omega arith) h)) ∙ held-more n E (token-less p xs) p c l (omega (arith, length-set xs p (pred (getD xs p 0))))
+    ap (λ v. held n E v c) (sym (more-less xs p (omega arith) h)) ∙ held-more n E (token-less p xs) p c l (omega (arith, length-set xs p (getD xs p 0 - 1)))
 
 -- its own group holds what a place holds
 pub held-own : (n : ℕ) (E : Relation) → Equivalence E → (xs : List ℕ) (i : ℕ) → i < n → getD xs i 0 ≤ held n E xs i
@@ -71,11 +72,6 @@ getD-plus [] ys i = omega arith
 getD-plus (x ∷ xs) [] i = omega arith
 getD-plus (x ∷ xs) (y ∷ ys) zero = refl
 getD-plus (x ∷ xs) (y ∷ ys) (suc i) = getD-plus xs ys i
-
-pub length-plus : (xs ys : List ℕ) → length xs ≡ length ys → length (plus xs ys) ≡ length ys
-length-plus [] ys e = refl
-length-plus (x ∷ xs) [] e = absurd (omega arith)
-length-plus (x ∷ xs) (y ∷ ys) e = omega (arith, length-plus xs ys (omega arith))
 
 pub held-plus : (n : ℕ) (E : Relation) (xs ys : List ℕ) (c : ℕ) → held n E (plus xs ys) c ≡ held n E xs c + held n E ys c
 held-plus n E xs ys c =

@@ -8,7 +8,8 @@ use Rattle.std.specs.Orderings.{Decides}
 use Rattle.net.specs.Meaning.{Meaning, count-of}
 use Rattle.net.specs.Limits.{Lawful}
 use Rattle.team.specs.Relations.{Relation, LiesIn, EquivalenceOn, among}
-use Rattle.team.specs.Markings.{MarkingOf, Enabled, fired}
+use Rattle.net.specs.Markings.{fired}
+use Rattle.team.specs.Markings.{MarkingOf, Enabled}
 use Rattle.team.specs.Closure.{Closure}
 use Rattle.team.specs.Teams.{TeamBisimulation, Bisimilar, Paired}
 use Rattle.team.specs.Stages.{together, Stable, rounds, group-at}
