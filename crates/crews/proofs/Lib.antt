@@ -1,4 +1,7 @@
+pub mod ClassSums
 pub mod PutDown
-pub mod Tables
-pub mod Steps
 pub mod Replaying
+pub mod RowCells
+pub mod Steps
+pub mod SwapLists
+pub mod Tables
