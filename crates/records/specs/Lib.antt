@@ -4,3 +4,6 @@ pub mod Check
 pub mod Verdict
 pub mod EntryLaws
 pub mod CheckLaws
+pub mod File
+pub mod TargetLaws
+pub mod FileLaws

@@ -1,10 +1,14 @@
 // Record files: a net and its two crews as a run of records of 8 bytes. The check, the net of a file, and a net written as a file.
 mod counts;
 mod file_check;
+mod file_net;
+mod index;
 mod layout;
 mod targets;
 
 pub use counts::Counts;
 pub use file_check::check;
+pub use file_net::FileNet;
+pub use file_net::FileNetNet;
 pub use layout::MOST_RECORDS;
 pub use layout::RECORD_SIZE;

@@ -1,8 +1,9 @@
 // The target bytes of a transition record, however many there are.
-ghost use Prim.Native.Nat.{_≤_};
+ghost use Prim.Native.Nat.{_≤_, _<_};
 ghost use mathlib.Core.Path.{_≡_};
 ghost use lib.ListN.{length};
 ghost use Rattle.records.specs.Entry.{rising, blank as unusedAll, padded, below};
+ghost use Rattle.records.specs.File.{tokens-to};
 use crate::layout::NO_TARGET;
 
 // Whether each target is at least the one before it.
@@ -49,4 +50,18 @@ pub(crate) fn declared(targets: &[u8], places: usize) -> bool
         }
     }
     true
+}
+
+// How many of the targets are the place p.
+pub(crate) fn tokens_to(targets: &[u8], p: usize) -> u8
+    requires { ⌜ length (now targets) < 256 ⌝ }
+    ensures { λ r. ⌜ r ≡ tokens-to (now (targets .entry)) p ⌝ }
+{
+    let mut tokens = 0;
+    for t in targets {
+        if *t as usize == p {
+            tokens += 1;
+        }
+    }
+    tokens
 }
