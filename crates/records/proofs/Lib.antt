@@ -1,2 +1,5 @@
 pub mod Verdicts
 pub mod Indexes
+pub mod Spreads
+pub mod Trips
+pub mod Writes

@@ -7,3 +7,4 @@ pub mod CheckLaws
 pub mod File
 pub mod TargetLaws
 pub mod FileLaws
+pub mod Write

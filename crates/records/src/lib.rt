@@ -2,6 +2,7 @@
 mod counts;
 mod file_check;
 mod file_net;
+mod file_write;
 mod index;
 mod layout;
 mod targets;
@@ -10,5 +11,6 @@ pub use counts::Counts;
 pub use file_check::check;
 pub use file_net::FileNet;
 pub use file_net::FileNetNet;
+pub use file_write::write;
 pub use layout::MOST_RECORDS;
 pub use layout::RECORD_SIZE;
