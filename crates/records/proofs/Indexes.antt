@@ -11,12 +11,12 @@ use Rattle.std.proofs.shelf.Tests.{both-ways, cases-bool}
 use mathlib.Core.Logic.{⊎-elim}
 use Rattle.net.specs.Limits.{most-transitions}
 use Rattle.records.specs.Layout.{most-records, record-count, record-at, at}
+use Rattle.records.specs.Check.{counts-of}
 use Rattle.records.specs.Entry.{is-transition, reading}
-use Rattle.records.specs.Verdict.{counts-of}
 use Rattle.records.specs.EntryLaws.{moving, kind-moves}
-use Rattle.records.specs.CheckLaws.{Few, few-to, few-records, counts-are}
+use Rattle.records.specs.CheckLaws.{Few, few-to, few-records, counts-are, passed-at}
 use Rattle.records.specs.File.{sound, transition-records}
-use Rattle.records.specs.FileLaws.{Admits, admits, formed-to, length-transition-records}
+use Rattle.records.specs.FileLaws.{Admits, admits, length-transition-records}
 
 longer-by : (b : List ℕ) (k d : ℕ) → length (transition-records b k) ≤ length (transition-records b (k + d))
 longer-by b k zero = rw add-zero (omega arith)
@@ -47,7 +47,7 @@ module _ (b : List ℕ) (ok : sound b ≡ true) where
     -- a transition record is one more
     pub index-yes : at (record-at b k) 0 ≡ 2 → transition-records b (k + 1) ≡ transition-records b k ++ k ∷ []
     index-yes kind =
-        let is = kind-moves (record-at b k) (formed-to b (record-count b) (all .counts) (all .all) k h) kind in
+        let is = kind-moves (record-at b k) (passed-at b (record-count b) (all .counts) (all .all) k h .formed) kind in
         ap (transition-records b) (add-one k) ∙ ap (λ v. cond v (transition-records b k ++ k ∷ []) (transition-records b k)) is
 
     pub index-no : (at (record-at b k) 0 ≡ 2 → ⊥) → transition-records b (k + 1) ≡ transition-records b k

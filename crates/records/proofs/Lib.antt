@@ -3,3 +3,4 @@ pub mod Indexes
 pub mod Spreads
 pub mod Trips
 pub mod Writes
+pub mod CrewLaws

@@ -18,8 +18,8 @@ use Rattle.net.specs.Limits.{most-places, most-transitions, most-tokens}
 use Rattle.records.specs.declared.counts.Counts.{Counts}
 use Rattle.records.specs.Layout.{record-size, most-records, record-count, record-at}
 use Rattle.records.specs.Entry.{Entry, declares, moves, holds, broken, below, reading}
-use Rattle.records.specs.Check.{tokens-with, counted, well-formed, known, roomy, light, unless, admit, then, checked-to, checked}
-use Rattle.records.specs.Verdict.{counts-of, Malformed, Beyond, Undeclared, Over, Heavy, reasons, reasons-at, Admitted, Cut, Refused, Accepted, Verdict}
+use Rattle.records.specs.Check.{tokens-with, counted, well-formed, known, roomy, light, unless, admit, then, checked-to, checked, counts-of}
+use Rattle.records.specs.Verdict.{Malformed, Beyond, Undeclared, Over, Heavy, reasons, reasons-at, Admitted, Cut, Refused, Accepted, Verdict}
 use Rattle.records.specs.CheckLaws.{Passed, admit-ok, before, counts-are}
 
 -- ## Each test decides its reason

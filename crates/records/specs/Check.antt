@@ -33,6 +33,11 @@ counted (holds side place n) c =
     (record { places = c .places; transitions = c .transitions; left = c .left; right = c .right + n })
 counted broken c = c
 
+-- what the first k records hold
+abbrev pub counts-of : List ℕ → ℕ → Counts
+counts-of bytes zero = nothing
+counts-of bytes (suc k) = counted (reading (record-at bytes k)) (counts-of bytes k)
+
 -- ## What record k is tried by, after records that hold c
 
 abbrev pub well-formed : Entry → Bool

@@ -4,11 +4,12 @@ use native.Mathlib.Nat.{add-zero, add-suc}
 use native.Mathlib.Numerals.{add-one}
 use native.Mathlib.Omega.{arith}
 use mathlib.Core.Path.{_≡_, refl, sym, ap, subst, _∙_}
+use mathlib.Core.Logic.{⊎-elim}
 use mathlib.Core.Bool.{Bool, true, false, cond, _&&_}
 use mathlib.Core.List.{List}
 use lib.Dec.{eqb, leb, ltb}
 use lib.ListN.{length, length-take, length-drop}
-use Rattle.std.proofs.shelf.Tests.{and-parts, ltb-true, leb-true, eqb-true}
+use Rattle.std.proofs.shelf.Tests.{and-parts, ltb-true, leb-true, cases-lt}
 use Rattle.std.specs.declared.result.Result.{Result}
 use Rattle.std.specs.declared.result.Result.the-variants.{Ok, Err}
 use Rattle.net.specs.declared.refusal.Refusal.{Refusal}
@@ -19,8 +20,7 @@ use Rattle.net.specs.Limits.{most-places, most-transitions, most-tokens}
 use Rattle.records.specs.declared.counts.Counts.{Counts}
 use Rattle.records.specs.Layout.{record-size, most-records, record-count, record-at}
 use Rattle.records.specs.Entry.{Entry, declares, moves, holds, broken, below, reading}
-use Rattle.records.specs.Check.{nothing, tokens-with, counted, well-formed, known, roomy, light, unless, admit, then, checked-to, checked}
-use Rattle.records.specs.Verdict.{counts-of}
+use Rattle.records.specs.Check.{nothing, tokens-with, counted, well-formed, known, roomy, light, unless, admit, then, checked-to, checked, counts-of}
 
 -- ## One record
 
@@ -126,6 +126,37 @@ module _ (b : List ℕ) where
   pub few-records : (k : ℕ) (c : Counts) → checked-to b k ≡ Ok c → k ≤ most-records
   few-records zero c h = omega arith
   few-records (suc k) c h = let p = before k c h in roomy-record (reading (record-at b k)) k (p .counts) (p .passed .room)
+
+  -- each of the records has passed, after what the earlier ones hold
+  settled : (e : Entry) (k : ℕ) (c c′ d : Counts) → c ≡ d → Passed e k c c′ → Passed e k d (counted e d)
+  settled e k c c′ d same p = record {
+    formed = p .formed;
+    names = subst (λ x. known e x ≡ true) same (p .names);
+    room = subst (λ x. roomy e k x ≡ true) same (p .room);
+    weight = subst (λ x. light e x ≡ true) same (p .weight);
+    after = refl;
+  }
+
+  pub passed-at : (n : ℕ) (c : Counts) → checked-to b n ≡ Ok c → (k : ℕ) → k < n → Passed (reading (record-at b k)) k (counts-of b k) (counts-of b (suc k))
+  passed-at zero c h k l = absurd (omega arith)
+  passed-at (suc n) c h k l =
+      let p = before n c h in
+      let earlier = passed-at n (p .counts) (p .reached) k in
+      let last = settled (reading (record-at b n)) n (p .counts) c (counts-of b n) (counts-are n (p .counts) (p .reached)) (p .passed) in
+      ⊎-elim earlier (λ g. let same : n ≡ k = omega arith in subst (λ j. Passed (reading (record-at b j)) j (counts-of b j) (counts-of b (suc j))) same last) (cases-lt k n)
+
+  pub few-at : (n : ℕ) (c : Counts) → checked-to b n ≡ Ok c → (k : ℕ) → k ≤ n → Few (counts-of b k)
+  few-at n c h zero l = record { few-places = omega arith; few-transitions = omega arith; few-left = omega arith; few-right = omega arith }
+  few-at n c h (suc k) l = few-counted (reading (record-at b k)) k (counts-of b k) (counts-of b (suc k)) (passed-at n c h k l) (few-at n c h k (omega arith))
+
+  places-by : (k d : ℕ) → counts-of b k .places ≤ counts-of b (k + d) .places
+  places-by k zero = rw add-zero (omega arith)
+  places-by k (suc d) = rw add-suc (omega (arith, places-by k d, places-grow (reading (record-at b (k + d))) (counts-of b (k + d))))
+
+  pub places-mono : (k n : ℕ) → k ≤ n → counts-of b k .places ≤ counts-of b n .places
+  places-mono k n h =
+      let same : k + (n - k) ≡ n = omega arith in
+      subst (λ j. counts-of b k .places ≤ counts-of b j .places) same (places-by k (n - k))
 
   -- a fault stays the first
   stays-by : (i d : ℕ) (f : Fault) → checked-to b i ≡ Err f → checked-to b (i + d) ≡ Err f

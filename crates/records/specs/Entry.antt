@@ -47,28 +47,37 @@ padded k ts = rising 0 (take k ts) && blank (drop k ts)
 -- ## The kinds
 
 -- 01: a place, then zeros
+abbrev pub place-form : List ℕ → Bool
+place-form r = eqb (at r 2) 0 && eqb (at r 3) 0 && eqb (at r 4) 0 && eqb (at r 5) 0 && eqb (at r 6) 0 && eqb (at r 7) 0
+
 abbrev pub place-reading : List ℕ → Entry
-place-reading r = cond (eqb (at r 2) 0 && eqb (at r 3) 0 && eqb (at r 4) 0 && eqb (at r 5) 0 && eqb (at r 6) 0 && eqb (at r 7) 0) (declares (at r 1)) broken
+place-reading r = cond (place-form r) (declares (at r 1)) broken
+
+-- 02: a place, a label, a total, then the targets
+abbrev pub head-form : List ℕ → Bool
+head-form r = leb (at r 2) most-label && leb (at r 3) record-targets
 
 -- a transition with a total and its target bytes
 abbrev pub with-targets : ℕ → ℕ → ℕ → List ℕ → Entry
 with-targets place label total ts = cond (padded total ts) (moves place label (take total ts)) broken
 
--- 02: a place, a label, a total, then the targets
 abbrev pub transition-reading : List ℕ → Entry
-transition-reading r = cond (leb (at r 2) most-label && leb (at r 3) record-targets) (with-targets (at r 1) (at r 2) (at r 3) (drop head-size r)) broken
+transition-reading r = cond (head-form r) (with-targets (at r 1) (at r 2) (at r 3) (drop head-size r)) broken
 
 -- the targets of a transition record
 abbrev pub targets-of : List ℕ → List ℕ
 targets-of r = take (at r 3) (drop head-size r)
 
+-- 03: a side, a place, a zero, a count in two bytes, then zeros
+abbrev pub tokens-form : List ℕ → Bool
+tokens-form r = leb (at r 1) 1 && eqb (at r 3) 0 && eqb (at r 6) 0 && eqb (at r 7) 0
+
 -- a number of two bytes, high byte first
 abbrev pub two-bytes : ℕ → ℕ → ℕ
 two-bytes high low = high * 256 + low
 
--- 03: a side, a place, a zero, a count in two bytes, then zeros
 abbrev pub tokens-reading : List ℕ → Entry
-tokens-reading r = cond (leb (at r 1) 1 && eqb (at r 3) 0 && eqb (at r 6) 0 && eqb (at r 7) 0) (holds (at r 1) (at r 2) (two-bytes (at r 4) (at r 5))) broken
+tokens-reading r = cond (tokens-form r) (holds (at r 1) (at r 2) (two-bytes (at r 4) (at r 5))) broken
 
 abbrev pub reading : List ℕ → Entry
 reading r =

@@ -9,7 +9,7 @@ use lib.ListN.{take, drop}
 use Rattle.std.proofs.shelf.Tests.{false≢true, and-parts, and-from, leb-true, le-leb, eqb-true, eq-eqb, ne-eqb}
 use Rattle.net.specs.Limits.{most-label}
 use Rattle.records.specs.Layout.{at, head-size, record-targets}
-use Rattle.records.specs.Entry.{Entry, declares, moves, holds, broken, padded, place-reading, with-targets, transition-reading, tokens-reading, targets-of, reading, is-transition}
+use Rattle.records.specs.Entry.{Entry, declares, moves, holds, broken, padded, place-form, head-form, tokens-form, two-bytes, place-reading, with-targets, transition-reading, tokens-reading, targets-of, reading, is-transition}
 use Rattle.records.specs.Check.{well-formed}
 
 pub reading-kind : (r : List ℕ) → at r 0 ≡ 2 → reading r ≡ transition-reading r
@@ -20,7 +20,7 @@ reading-kind r kind =
 
 pub reading-transition : (r : List ℕ) → at r 0 ≡ 2 → at r 2 ≤ most-label → at r 3 ≤ record-targets → reading r ≡ with-targets (at r 1) (at r 2) (at r 3) (drop head-size r)
 reading-transition r kind label total =
-    let small : (leb (at r 2) most-label && leb (at r 3) record-targets) ≡ true = and-from (leb (at r 2) most-label) (leb (at r 3) record-targets) (le-leb (at r 2) most-label label) (le-leb (at r 3) record-targets total) in
+    let small : head-form r ≡ true = and-from (leb (at r 2) most-label) (leb (at r 3) record-targets) (le-leb (at r 2) most-label label) (le-leb (at r 3) record-targets total) in
     reading-kind r kind ∙ ap (λ v. cond v (with-targets (at r 1) (at r 2) (at r 3) (drop head-size r)) broken) small
 
 -- ## Transition records
@@ -43,7 +43,7 @@ no-tokens false side place n h = absurd (false≢true h)
 pub moving : (r : List ℕ) → is-transition (reading r) ≡ true → Moving r
 moving r h = by-kind (eqb (at r 0) 1) (eqb (at r 0) 2) (eqb (at r 0) 3) refl h
   where
-    by-form : at r 0 ≡ 2 → (small pad : Bool) → (leb (at r 2) most-label && leb (at r 3) record-targets) ≡ small → padded (at r 3) (drop head-size r) ≡ pad → is-transition (cond small (cond pad (moves (at r 1) (at r 2) (targets-of r)) broken) broken) ≡ true → Moving r
+    by-form : at r 0 ≡ 2 → (small pad : Bool) → head-form r ≡ small → padded (at r 3) (drop head-size r) ≡ pad → is-transition (cond small (cond pad (moves (at r 1) (at r 2) (targets-of r)) broken) broken) ≡ true → Moving r
     by-form kind true true e f h =
         let both = and-parts (leb (at r 2) most-label) (leb (at r 3) record-targets) e in
         let label = leb-true (at r 2) most-label (both .0) in
@@ -53,14 +53,14 @@ moving r h = by-kind (eqb (at r 0) 1) (eqb (at r 0) 2) (eqb (at r 0) 3) refl h
     by-form kind false pad e f h = absurd (false≢true h)
 
     by-kind : (one two three : Bool) → eqb (at r 0) 2 ≡ two → is-transition (cond one (place-reading r) (cond two (transition-reading r) (cond three (tokens-reading r) broken))) ≡ true → Moving r
-    by-kind true two three e h = no-place _ _ h
-    by-kind false true three e h = by-form (eqb-true (at r 0) 2 e) _ _ refl refl h
-    by-kind false false true e h = no-tokens _ _ _ _ h
+    by-kind true two three e h = no-place (place-form r) (at r 1) h
+    by-kind false true three e h = by-form (eqb-true (at r 0) 2 e) (head-form r) (padded (at r 3) (drop head-size r)) refl refl h
+    by-kind false false true e h = no-tokens (tokens-form r) (at r 1) (at r 2) (two-bytes (at r 4) (at r 5)) h
     by-kind false false false e h = absurd (false≢true h)
 
 -- a record of that kind that keeps its form is one
 pub kind-moves : (r : List ℕ) → well-formed (reading r) ≡ true → at r 0 ≡ 2 → is-transition (reading r) ≡ true
-kind-moves r h kind = ap is-transition (reading-kind r kind) ∙ by-form (leb (at r 2) most-label && leb (at r 3) record-targets) (padded (at r 3) (drop head-size r)) (subst (λ e. well-formed e ≡ true) (reading-kind r kind) h)
+kind-moves r h kind = ap is-transition (reading-kind r kind) ∙ by-form (head-form r) (padded (at r 3) (drop head-size r)) (subst (λ e. well-formed e ≡ true) (reading-kind r kind) h)
   where
     by-form : (small pad : Bool) → well-formed (cond small (cond pad (moves (at r 1) (at r 2) (targets-of r)) broken) broken) ≡ true → is-transition (cond small (cond pad (moves (at r 1) (at r 2) (targets-of r)) broken) broken) ≡ true
     by-form true true h = refl

@@ -9,12 +9,15 @@ use Rattle.std.specs.shelf.Lists.{countBy}
 use Rattle.net.specs.Meaning.{Meaning, Transition, idle, empty}
 use Rattle.records.specs.Layout.{record-count, record-at}
 use Rattle.records.specs.Entry.{Entry, declares, moves, holds, broken, is-transition, reading}
-use Rattle.records.specs.Check.{checked}
-use Rattle.records.specs.Verdict.{counts-of}
+use Rattle.records.specs.Check.{checked, counts-of}
 
 -- whether the check admits the file
 abbrev pub sound : List ℕ → Bool
 sound bytes = isOk (checked bytes)
+
+-- how many records there are to go through: none where the check refuses the file
+abbrev pub admitted-records : List ℕ → ℕ
+admitted-records bytes = cond (sound bytes) (record-count bytes) 0
 
 -- how often a place stands among targets
 abbrev pub tokens-to : List ℕ → ℕ → ℕ

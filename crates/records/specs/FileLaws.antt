@@ -24,11 +24,10 @@ use Rattle.net.specs.Limits.{Lawful, Within, most-places, most-transitions, mos
 use Rattle.records.specs.declared.counts.Counts.{Counts}
 use Rattle.records.specs.Layout.{record-size, head-size, record-targets, most-records, record-count, record-at, at}
 use Rattle.records.specs.Entry.{Entry, declares, moves, holds, broken, is-transition, below, targets-of, reading}
-use Rattle.records.specs.Check.{counted, well-formed, known, checked-to, checked}
-use Rattle.records.specs.Verdict.{counts-of}
+use Rattle.records.specs.Check.{counted, well-formed, known, checked-to, checked, counts-of}
 use Rattle.records.specs.EntryLaws.{Moving, moving}
 use Rattle.records.specs.CheckLaws.{err-not-ok, Few, Before, before, counts-are, few-to, few-records, places-grow, length-record}
-use Rattle.records.specs.File.{sound, tokens-to, transition-of, transition-records, declared-places, declared-net, net-of}
+use Rattle.records.specs.File.{sound, tokens-to, transition-of, transition-records, declared-places, declared-net, net-of, admitted-records}
 use Rattle.records.specs.TargetLaws.{below-more, sum-tokens}
 
 -- ## Files that the check admits
@@ -53,14 +52,6 @@ admits b h = by-result (checked b) refl h
 
 pub places-admitted : (b : List ℕ) (a : Admits b) → a .counts .places ≡ declared-places b
 places-admitted b a = ap (λ c. c .places) (counts-are b (record-count b) (a .counts) (a .all))
-
--- each record of an admitted file keeps its form
-pub formed-to : (b : List ℕ) (n : ℕ) (c : Counts) → checked-to b n ≡ Ok c → (k : ℕ) → k < n → well-formed (reading (record-at b k)) ≡ true
-formed-to b zero c h k l = absurd (omega arith)
-formed-to b (suc n) c h k l =
-    let p = before b n c h in
-    let earlier = formed-to b n (p .counts) (p .reached) k in
-    ⊎-elim earlier (λ g. let same : n ≡ k = omega arith in subst (λ j. well-formed (reading (record-at b j)) ≡ true) same (p .passed .formed)) (cases-lt k n)
 
 -- ## Its transition records
 
@@ -287,6 +278,7 @@ pub record Kept (b : List ℕ) (c : Counts) (starts : List ℕ) : Type 0 where
   pub places : c .places ≡ net-of b .places
   pub table : take (c .transitions) starts ≡ picked b
   pub few : c .transitions ≤ most-transitions
+  pub size : record-count b ≡ admitted-records b
 
 pub kept : (b : List ℕ) (c : Counts) → Ok c ≡ checked b → (starts : List ℕ) → take (length (transition-records b (record-count b))) starts ≡ transition-records b (record-count b) → Kept b c starts
 kept b c h starts table =
@@ -298,4 +290,5 @@ kept b c h starts table =
       places = ap (λ x. x .places) is ∙ ap (λ v. cond v (declared-net b) empty .places) ok;
       table = ap (λ n. take n starts) count ∙ table ∙ ap (λ v. cond v (transition-records b (record-count b)) []) ok;
       few = few-to b (record-count b) c all .few-transitions;
+      size = ap (λ v. cond v (record-count b) 0) ok;
     }

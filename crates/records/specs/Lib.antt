@@ -7,4 +7,6 @@ pub mod CheckLaws
 pub mod File
 pub mod TargetLaws
 pub mod FileLaws
+pub mod Tokens
+pub mod Crews
 pub mod Write

@@ -14,12 +14,7 @@ use Rattle.net.specs.Limits.{most-places, most-transitions, most-tokens}
 use Rattle.records.specs.declared.counts.Counts.{Counts}
 use Rattle.records.specs.Layout.{record-size, most-records, record-count, record-at}
 use Rattle.records.specs.Entry.{Entry, declares, moves, holds, broken, reading}
-use Rattle.records.specs.Check.{nothing, tokens-with, counted}
-
--- what the first k records hold
-abbrev pub counts-of : List ℕ → ℕ → Counts
-counts-of bytes zero = nothing
-counts-of bytes (suc k) = counted (reading (record-at bytes k)) (counts-of bytes k)
+use Rattle.records.specs.Check.{tokens-with, counts-of}
 
 -- ## Why a record is refused, after records that hold c
 

@@ -1,17 +1,21 @@
 // The file check.
-ghost use Prim.Native.Nat.{ℕ, _+_, _*_, _<_, _≤_};
+ghost use Prim.Native.Nat.{ℕ, _<_, _≤_};
 ghost use mathlib.Core.Path.{_≡_};
 ghost use lib.ListN.{length};
+ghost use Rattle.std.specs.Results.{Cases};
 ghost use Rattle.net.specs.Limits.{most-tokens};
 ghost use Rattle.net.specs.Refusals.{Rising};
-ghost use Rattle.records.specs.Layout.{record-size, record-at as recordAt};
-ghost use Rattle.records.specs.Entry.{declares, holds, with-targets, reading, two-bytes as twoBytes};
+ghost use Rattle.records.specs.Layout.{record-size};
+ghost use Rattle.records.specs.Entry.{declares, holds, with-targets, reading};
 ghost use Rattle.records.specs.Check.{admit as admitted, checked};
+ghost use Rattle.records.specs.Crews.{Measures};
 ghost use Rattle.records.specs.Verdict.{Verdict, reasons-at};
 use crate::counts::Counts;
 use crate::layout::MOST_RECORDS;
 use crate::layout::RECORD_SIZE;
 use crate::layout::RECORD_TARGETS;
+use crate::record::record_at;
+use crate::record::two_bytes;
 use crate::targets::declared;
 use crate::targets::well_padded;
 use net::Fault;
@@ -128,28 +132,12 @@ fn admit(bytes: &[u8], spot: usize, seen: Counts) -> Result<Counts, Fault>
     }
 }
 
-// A number of two bytes, high byte first.
-fn two_bytes(high: u8, low: u8) -> usize
-    ensures value { λ r. ⌜ r ≡ twoBytes high low ⌝ }
-    ensures small { λ r. ⌜ r < 65536 ⌝ }
-{
-    high as usize * 256 + low as usize
-}
-
-// The bytes of record k.
-pub(crate) fn record_at(bytes: &[u8], k: usize) -> &[u8]
-    requires { ⌜ record-size * k + record-size ≤ length (now bytes) ⌝ }
-    ensures value { λ r. ⌜ now r ≡ recordAt (now (bytes .entry)) k ⌝ }
-    ensures size { λ r. ⌜ length (now r) ≡ record-size ⌝ }
-{
-    &bytes[RECORD_SIZE * k..RECORD_SIZE * k + RECORD_SIZE]
-}
-
 // Judges a file: what its records hold, or the first fault.
 // A length that is no whole number of records comes first; then each record is tried by all its reasons before the next one.
 pub fn check(bytes: &[u8]) -> Result<Counts, Fault>
     ensures result { λ r. ⌜ r ≡ checked (now (bytes .entry)) ⌝ }
     ensures verdict { λ r. ⌜ Verdict (now (bytes .entry)) r ⌝ }
+    ensures crews { λ r. ⌜ Cases r (Measures (now (bytes .entry))) (λ _. Unit {0}) ⌝ }
     ensures order { λ _. ⌜ ((k : ℕ) → Rising 1 (reasons-at (now (bytes .entry)) k)) ⌝ }
 {
     if bytes.len() % RECORD_SIZE != 0 {

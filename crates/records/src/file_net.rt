@@ -6,14 +6,18 @@ ghost use lib.ListN.{take};
 ghost use Rattle.std.specs.declared.result.Result.the-variants.{Ok};
 ghost use Rattle.net.specs.Limits.{most-transitions};
 ghost use Rattle.records.specs.Check.{checked};
-ghost use Rattle.records.specs.File.{sound, net-of};
+ghost use Rattle.records.specs.File.{sound, admitted-records, net-of};
+ghost use Rattle.records.specs.Crews.{token-record, Put};
 ghost use Rattle.records.specs.FileLaws.{picked, net-lawful, Tells};
 use crate::counts::Counts;
 use crate::file_check::check;
-use crate::file_check::record_at;
 use crate::index::index_of;
 use crate::layout::HEAD_SIZE;
+use crate::layout::RECORD_SIZE;
+use crate::record::record_at;
 use crate::targets::tokens_to;
+use crate::tokens::Tokens;
+use crate::tokens::tokens_in;
 use net::MOST_TRANSITIONS;
 use net::Net;
 
@@ -21,9 +25,11 @@ use net::Net;
 #[derive(Clone, Copy)]
 pub struct FileNet<'a> {
     bytes: &'a [u8],
+    size: usize,
     places: usize,
     count: usize,
     starts: [u16; MOST_TRANSITIONS],
+    ghost whole: { size ≡ admitted-records (bytes .now) },
     ghost declared: { places ≡ net-of (bytes .now) .places },
     ghost tied: { take count starts ≡ picked (bytes .now) },
     ghost few: { count ≤ most-transitions },
@@ -40,12 +46,32 @@ impl<'a> FileNet<'a> {
         }
     }
 
+    // How many records there are to go through: all, or none where the check refuses the bytes.
+    pub fn records(&self) -> usize
+        ensures { λ r. ⌜ r ≡ admitted-records (now (self .entry) .bytes .now) ⌝ }
+    {
+        self.size
+    }
+
+    // The tokens of record k, where it is a token record of an admitted file.
+    // Put on the crews one after the other, they make the crews of the file, and no crew is ever too large.
+    pub fn token_record(&self, k: usize) -> Option<Tokens>
+        ensures value { λ r. ⌜ r ≡ token-record (now (self .entry) .bytes .now) k ⌝ }
+        ensures crews { λ r. ⌜ (k < admitted-records (now (self .entry) .bytes .now) → Put (now (self .entry) .bytes .now) k r) ⌝ }
+    {
+        if k >= self.size {
+            return None;
+        }
+        tokens_in(record_at(self.bytes, k))
+    }
+
     fn refused(bytes: &'a [u8]) -> FileNet<'a>
         requires { ⌜ sound (now bytes) ≡ false ⌝ }
         ensures { λ r. ⌜ r .bytes .now ≡ now (bytes .entry) ⌝ }
     {
         FileNet {
             bytes,
+            size: 0,
             places: 0,
             count: 0,
             starts: [0; MOST_TRANSITIONS],
@@ -59,6 +85,7 @@ impl<'a> FileNet<'a> {
         let starts = index_of(bytes);
         FileNet {
             bytes,
+            size: bytes.len() / RECORD_SIZE,
             places: seen.places,
             count: seen.transitions,
             starts,

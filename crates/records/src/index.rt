@@ -4,8 +4,8 @@ ghost use mathlib.Core.Bool.{true};
 ghost use lib.ListN.{length, take};
 ghost use Rattle.records.specs.Layout.{record-count};
 ghost use Rattle.records.specs.File.{sound, transition-records};
-use crate::file_check::record_at;
 use crate::layout::RECORD_SIZE;
+use crate::record::record_at;
 use net::MOST_TRANSITIONS;
 
 // The numbers of an admitted file's transition records, in order from the front.

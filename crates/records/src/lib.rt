@@ -5,7 +5,9 @@ mod file_net;
 mod file_write;
 mod index;
 mod layout;
+mod record;
 mod targets;
+mod tokens;
 
 pub use counts::Counts;
 pub use file_check::check;
@@ -14,3 +16,4 @@ pub use file_net::FileNetNet;
 pub use file_write::write;
 pub use layout::MOST_RECORDS;
 pub use layout::RECORD_SIZE;
+pub use tokens::Tokens;

@@ -11,9 +11,9 @@ use Rattle.net.specs.declared.refusal.Refusal.the-variants.{PartialRecord}
 use Rattle.net.specs.Refusals.{at-spot}
 use Rattle.records.specs.Layout.{record-count, record-at}
 use Rattle.records.specs.Entry.{reading}
-use Rattle.records.specs.Check.{admit, checked-to, checked}
-use Rattle.records.specs.Verdict.{counts-of}
+use Rattle.records.specs.Check.{admit, checked-to, checked, counts-of}
 use Rattle.records.specs.CheckLaws.{stays, few-to, checked-to-more}
+use Rattle.records.proofs.CrewLaws.{measured}
 use Rattle.records.proofs.Verdicts.{means, reasons-rise}
 use Rattle.records.proofs.file_check.check.Needs as need
 
@@ -32,7 +32,7 @@ pub returns-then-bytes-ne0 : need.returns-then-bytes-ne0
 returns-then-bytes-ne0 c =
     let b = c .args .bytes .now in
     let is : Err (c .at .result) ≡ checked b = search needs in
-    record { result = is; verdict = means b (Err (c .at .result)) is; order = λ k. reasons-rise (reading (record-at b k)) k (counts-of b k) }
+    record { result = is; verdict = means b (Err (c .at .result)) is; crews = tt; order = λ k. reasons-rise (reading (record-at b k)) k (counts-of b k) }
 
 pub returns-in-Break-seen : need.returns-in-Break-seen
 returns-in-Break-seen c =
@@ -42,10 +42,10 @@ returns-in-Break-seen c =
     let whole : length b % 8 ≡ 0 = search needs in
     let s = checked-to-more b k (c .loop-k .seen) (c .loop-k .inv) ∙ ap (λ r. admit (reading r) k (c .loop-k .seen)) (sym (c .record-at .ensures .value)) ∙ sym (c .in-Break-seen .ensures tt) in
     let is : c .from-residual .result ≡ checked b = rw (p .1, p .2, whole) (sym (stays b (k + 1) (length b / 8) _ s (omega arith))) in
-    record { result = is; verdict = means b (c .from-residual .result) is; order = λ k. reasons-rise (reading (record-at b k)) k (counts-of b k) }
+    record { result = is; verdict = means b (c .from-residual .result) is; crews = measured b (c .from-residual .result) is; order = λ k. reasons-rise (reading (record-at b k)) k (counts-of b k) }
 
 pub returns : need.returns
 returns c =
     let b = c .args .bytes .now in
     let is : Ok (c .loop-k .seen) ≡ checked b = search needs in
-    record { result = is; verdict = means b (Ok (c .loop-k .seen)) is; order = λ k. reasons-rise (reading (record-at b k)) k (counts-of b k) }
+    record { result = is; verdict = means b (Ok (c .loop-k .seen)) is; crews = measured b (Ok (c .loop-k .seen)) is; order = λ k. reasons-rise (reading (record-at b k)) k (counts-of b k) }
