@@ -1,0 +1,6 @@
+pub mod Verdicts
+pub mod Indexes
+pub mod Spreads
+pub mod Trips
+pub mod Writes
+pub mod CrewLaws

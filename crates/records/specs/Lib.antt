@@ -1,0 +1,12 @@
+pub mod Layout
+pub mod Entry
+pub mod Check
+pub mod Verdict
+pub mod EntryLaws
+pub mod CheckLaws
+pub mod File
+pub mod TargetLaws
+pub mod FileLaws
+pub mod Tokens
+pub mod Crews
+pub mod Write
