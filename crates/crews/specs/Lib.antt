@@ -5,3 +5,4 @@ pub mod Shows
 pub mod Swaps
 pub mod Pairs
 pub mod Counting
+pub mod Verdicts

@@ -8,10 +8,22 @@ use records::check;
 use std::alloc::AllocError;
 use std::error::AnyError;
 use std::fs;
+use std::io;
 use std::io::Read;
 
 // The bytes of a file, up to one record more than a file may have: by those it is judged.
-pub fn read_file(rt: &LibcRuntime, path: &str) -> Result<Vec<u8>, AnyError> {
+// None where the file cannot be read, which is told.
+pub fn read_file(rt: &LibcRuntime, path: &str) -> Result<Option<Vec<u8>>, AnyError> {
+    match front_of(rt, path) {
+        Ok(bytes) => Ok(Some(bytes)),
+        Err(error) => {
+            eprintln!(rt, "{path}: {error}")?;
+            Ok(None)
+        }
+    }
+}
+
+fn front_of(rt: &LibcRuntime, path: &str) -> io::Result<Vec<u8>> {
     let mut bytes = Vec::new(rt.alloc());
     let file = fs::open(rt, path)?;
     file.take((RECORD_SIZE * (MOST_RECORDS + 1)) as u64)

@@ -60,7 +60,9 @@ fn over_ring(rt: &LibcRuntime, size: usize, label: usize) -> Result<bool, AnyErr
 
 // The tokens of the file are put first.
 fn over_file(rt: &LibcRuntime, path: &str) -> Result<bool, AnyError> {
-    let bytes = read_file(rt, path)?;
+    let Some(bytes) = read_file(rt, path)? else {
+        return Ok(false);
+    };
     if !admits(rt, bytes.as_slice())? {
         return Ok(true);
     }
@@ -72,8 +74,9 @@ fn over_file(rt: &LibcRuntime, path: &str) -> Result<bool, AnyError> {
 
 // The tokens of both files are put first, the right one's on places moved up by the left net's.
 fn over_files(rt: &LibcRuntime, left: &str, right: &str) -> Result<bool, AnyError> {
-    let left_bytes = read_file(rt, left)?;
-    let right_bytes = read_file(rt, right)?;
+    let (Some(left_bytes), Some(right_bytes)) = (read_file(rt, left)?, read_file(rt, right)?) else {
+        return Ok(false);
+    };
     if !admits(rt, left_bytes.as_slice())? || !admits(rt, right_bytes.as_slice())? {
         return Ok(true);
     }
