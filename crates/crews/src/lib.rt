@@ -9,6 +9,8 @@ mod swap;
 
 pub use bench::Bench;
 pub use call::Answer;
+pub use call::AnswerDebug;
+pub use call::AnswerPartialEq;
 pub use call::Call;
 pub use runs::perform;
 pub use runs::replay;
