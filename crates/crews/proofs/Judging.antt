@@ -29,7 +29,7 @@ use Rattle.crews.specs.Counting.{in-class, DiffersAt}
 use Rattle.crews.specs.Swaps.{swap-list}
 use Rattle.crews.specs.Pairs.{table-of}
 use Rattle.crews.specs.Shows.{Holds}
-use Rattle.crews.specs.Verdicts.{Alike, Apart}
+use Rattle.crews.specs.Verdicts.{AlikeBy, ApartBy}
 use Rattle.crews.specs.declared.swap.Difference.{Difference}
 use Rattle.crews.proofs.SwapLists.{length-swaps}
 use Rattle.crews.proofs.Tables.{holds-getD}
@@ -87,7 +87,7 @@ module _ (m : Meaning) (law : Lawful m) (cs : List ℕ) (classed : ClassedBy m c
       ∙ ap₂ (λ (a b : ℕ). cond (alike m p q) (min (a - tally q (table-of cs tl tr p)) (b - tally p (λ i. table-of cs tl tr i q))) 0)
       (holds-getD (m .places) tl (c .left) p hl l) (holds-getD (m .places) tr (c .right) q hr k)
 
-  pub judged-alike : ((x : ℕ) → x < m .places → in-class (m .places) cs tl x ≡ in-class (m .places) cs tr x) → Alike m c (swap-list (table-of cs tl tr) (m .places))
+  pub judged-alike : ((x : ℕ) → x < m .places → in-class (m .places) cs tl x ≡ in-class (m .places) cs tr x) → AlikeBy m c (swap-list (table-of cs tl tr) (m .places))
   judged-alike level =
       let T = table-of cs tl tr in
       let even : Even m (c .left) (c .right) = λ p l. sym (count-left p) ∙ level-even m law cs classed tl tr level p l ∙ count-right p in
@@ -135,7 +135,7 @@ module _ (m : Meaning) (law : Lawful m) (cs : List ℕ) (classed : ClassedBy m c
         ∙ at .lower (getD cs q 0) (omega (arith, w, classed .lowest q l .most))
         ∙ in-class-is m law cs classed tr q l ∙ count-right q
 
-    pub judged-apart : Apart m c d
+    pub judged-apart : ApartBy m c d
     judged-apart = record {
       unpaired = λ pair. at .differ (left-is ∙ paired-even m law (c .left) (c .right) pair (d .class) (at .known) ∙ sym right-is);
       known = at .known;

@@ -1,4 +1,5 @@
 pub mod ClassSums
+pub mod Comparing
 pub mod Judging
 pub mod PutDown
 pub mod Replaying

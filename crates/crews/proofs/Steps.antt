@@ -21,7 +21,7 @@ use Rattle.crews.specs.Shows.{Holds, Shows, Steps, table-on, with-table}
 use Rattle.crews.specs.declared.bench.Bench.{Bench}
 use Rattle.crews.specs.declared.crew.Crew.{Crew}
 use Rattle.crews.specs.declared.call.Call.{Call}
-use Rattle.crews.specs.declared.call.Call.the-variants.{Put, Take, Fire, Count}
+use Rattle.crews.specs.declared.call.Call.the-variants.{Put, Take, Fire, Count, Compare}
 use Rattle.crews.specs.declared.call.Answer.the-variants.{Done, Tokens, Refused}
 use Rattle.crews.proofs.Tables.{holds-getD, holds-sum, holds-set, holds-fired, shows-side, shows-with}
 
@@ -29,6 +29,7 @@ pub tried-in-order : Tried-in-order
 tried-in-order m c (Put s p k) = (omega arith, (omega arith, (omega arith, tt)))
 tried-in-order m c (Take s p k) = (omega arith, (omega arith, (omega arith, tt)))
 tried-in-order m c (Fire s t) = (omega arith, (omega arith, (omega arith, (omega arith, tt))))
+tried-in-order m c (Compare room) = (omega arith, tt)
 tried-in-order m c (Count s p) = (omega arith, (omega arith, tt))
 
 -- ## Refused

@@ -1,3 +1,4 @@
+pub mod Stub
 pub mod Crews
 pub mod Calls
 pub mod Tally
@@ -6,3 +7,4 @@ pub mod Swaps
 pub mod Pairs
 pub mod Counting
 pub mod Verdicts
+pub mod Compares

@@ -19,7 +19,10 @@ use Rattle.crews.specs.declared.bench.Bench.{Bench}
 use Rattle.crews.specs.declared.crew.Crew.{Crew}
 use Rattle.crews.specs.declared.call.Call.{Call}
 use Rattle.crews.specs.declared.call.Answer.{Answer}
-use Rattle.crews.specs.declared.call.Answer.the-variants.{Done, Tokens, Refused}
+use Rattle.crews.specs.declared.call.Answer.the-variants.{Done, Tokens, Alike, Apart, Refused}
+use Rattle.crews.specs.declared.swap.Swap.{Swap}
+use Rattle.crews.specs.declared.swap.Verdict.{Verdict}
+use Rattle.crews.specs.declared.swap.Verdict.the-variants.{Alike as VerdictAlike, Apart as VerdictApart}
 
 -- A table holds a crew of n places: the crew's counts, and 0 beyond.
 pub record Holds (n : ℕ) (table crew : List ℕ) : Type 0 where
@@ -50,6 +53,11 @@ done-or (Err f) = Refused f
 abbrev pub tokens-or : Result ℕ Fault → Answer
 tokens-or (Ok k) = Tokens k
 tokens-or (Err f) = Refused f
+
+abbrev pub said-or : Result Verdict Fault → List Swap → Answer
+said-or (Ok (VerdictAlike used)) entries = Alike (record { entries = entries; used = used })
+said-or (Ok (VerdictApart d)) entries = Apart d
+said-or (Err f) entries = Refused f
 
 -- whatever events led to the crews that b holds, with this one they lead to those that b′ holds
 abbrev pub Extends : {N : Type 0} → Meaning → Bench N → Call → Answer → Bench N → Type 0

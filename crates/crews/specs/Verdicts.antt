@@ -14,7 +14,7 @@ use Rattle.crews.specs.declared.swap.Swap.{Swap}
 use Rattle.crews.specs.declared.swap.Difference.{Difference}
 
 -- ALIKE: some team bisimulation pairs the crews token for token, and the list is that of the greatest pairing.
-pub record Alike (m : Meaning) (c : Crews) (list : List Swap) : Type 0 where
+pub record AlikeBy (m : Meaning) (c : Crews) (list : List Swap) : Type 0 where
   pub paired : Paired m (c .left) (c .right)
   pub table : Cells
   pub greatest : Greatest m (c .left) (c .right) table
@@ -22,7 +22,7 @@ pub record Alike (m : Meaning) (c : Crews) (list : List Swap) : Type 0 where
   pub short : length list ≤ 2 * m .places
 
 -- APART: no team bisimulation pairs them, and d is the lowest class that holds more tokens of one than of the other, with both counts.
-pub record Apart (m : Meaning) (c : Crews) (d : Difference) : Type 0 where
+pub record ApartBy (m : Meaning) (c : Crews) (d : Difference) : Type 0 where
   pub unpaired : ¬ (Paired m (c .left) (c .right))
   pub known : d .class < m .places
   pub named : Lowest m (d .class) (d .class)

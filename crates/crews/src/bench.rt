@@ -16,9 +16,9 @@ use net::Refusal;
 // Two crews, left (side 0) and right (side 1), on the places of one net.
 #[derive(Drop)]
 pub struct Bench<N: Net> {
-    net: N,
-    left: Crew,
-    right: Crew,
+    pub(crate) net: N,
+    pub(crate) left: Crew,
+    pub(crate) right: Crew,
 }
 
 impl<N: Net> Bench<N> {

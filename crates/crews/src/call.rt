@@ -1,4 +1,10 @@
 // The calls of the bench as values, and what they answer.
+use crate::Difference;
+use crate::DifferenceDebug;
+use crate::DifferencePartialEq;
+use crate::SwapList;
+use crate::SwapListDebug;
+use crate::SwapListPartialEq;
 use net::Fault;
 use net::FaultDebug;
 use net::FaultPartialEq;
@@ -24,6 +30,10 @@ pub enum Call {
         side: usize,
         place: usize,
     },
+    // a comparison into a list of `room` entries
+    Compare {
+        room: usize,
+    },
 }
 
 #[derive(Clone, Copy, PartialEq, Eq, Debug)]
@@ -32,6 +42,10 @@ pub enum Answer {
     Done,
     // how many tokens there are
     Tokens(u16),
+    // the crews are alike, and this is the swap list
+    Alike(SwapList),
+    // the crews are apart, and here they differ
+    Apart(Difference),
     // the call was refused, and the bench is as it was
     Refused(Fault),
 }

@@ -13,7 +13,7 @@ use net::Net;
 // The tokens of a crew on each place, and in all. No crew holds more than 4,096.
 #[derive(Clone, Copy)]
 pub(crate) struct Crew {
-    counts: [u16; MOST_PLACES],
+    pub(crate) counts: [u16; MOST_PLACES],
     total: u16,
     ghost summed: { total ≡ sum counts },
     ghost few: { total ≤ 4096 },

@@ -1,10 +1,15 @@
 // Calls as values: one performed on a bench, or a list of them from an empty bench on.
 ghost use mathlib.Core.Path.{_≡_};
 ghost use Rattle.crews.specs.Calls.{Tried-in-order};
-ghost use Rattle.crews.specs.Shows.{Steps, Extends, ReplayedOr, done-or, tokens-or};
+ghost use Rattle.crews.specs.Shows.{Steps, Extends, ReplayedOr, done-or, tokens-or, said-or};
+ghost use Rattle.crews.specs.declared.call.Call.the-variants.{Compare};
 use crate::Answer;
 use crate::Bench;
 use crate::Call;
+use crate::MOST_SWAPS;
+use crate::Swap;
+use crate::SwapList;
+use crate::Verdict;
 use net::Fault;
 use net::Net;
 use net::Refusal;
@@ -27,6 +32,41 @@ fn tokens(r: Result<u16, Fault>) -> Answer
     }
 }
 
+// What a comparison answers, with the list that it wrote into.
+fn said(r: Result<Verdict, Fault>, entries: [Swap; MOST_SWAPS]) -> Answer
+    ensures { λ a. ⌜ a ≡ said-or r entries ⌝ }
+{
+    match r {
+        Ok(Verdict::Alike { used }) => Answer::Alike(SwapList { entries, used }),
+        Ok(Verdict::Apart(d)) => Answer::Apart(d),
+        Err(f) => Answer::Refused(f),
+    }
+}
+
+// Compares into the front of a list, with as much of the room as it has.
+fn compare_in<N: Net>(
+    bench: &Bench<N>,
+    room: usize,
+    entries: &mut [Swap; MOST_SWAPS],
+) -> Result<Verdict, Fault>
+    ensures { λ r. ⌜ Steps (N·Net .meaning (now (bench .entry) .net)) (now (bench .entry)) (Compare room) (said-or r (now (entries .exit))) (now (bench .entry)) ⌝ }
+{
+    let within = room.min(MOST_SWAPS);
+    bench.compare(&mut entries[..within])
+}
+
+fn compared<N: Net>(bench: &Bench<N>, room: usize) -> Answer
+    ensures { λ a. ⌜ Steps (N·Net .meaning (now (bench .entry) .net)) (now (bench .entry)) (Compare room) a (now (bench .entry)) ⌝ }
+{
+    let mut entries = [Swap {
+        left: 0,
+        right: 0,
+        count: 0,
+    }; MOST_SWAPS];
+    let verdict = compare_in(bench, room, &mut entries);
+    said(verdict, entries)
+}
+
 // Makes a call by the bench's method for it.
 fn answer<N: Net>(bench: &mut Bench<N>, call: Call) -> Answer
     ensures same { λ _. ⌜ now (bench .exit) .net ≡ now (bench .entry) .net ⌝ }
@@ -37,6 +77,7 @@ fn answer<N: Net>(bench: &mut Bench<N>, call: Call) -> Answer
         Call::Take { side, place, count } => done(bench.take(side, place, count)),
         Call::Fire { side, transition } => done(bench.fire(side, transition)),
         Call::Count { side, place } => tokens(bench.count(side, place)),
+        Call::Compare { room } => compared(bench, room),
     }
 }
 
