@@ -63,3 +63,7 @@ sums-more p cs xs sums k v ek l ev g = record {
 pub sums-small : (p n : ℕ) (cs xs sums : List ℕ) (k : ℕ) → k ≡ getD cs p 0 → k < 128 → p < n → n ≤ length xs → SumsGoing p cs xs sums → getD sums k 0 + getD xs p 0 ≤ sum xs
 sums-small p n cs xs sums k ek l w h g =
     omega (arith, g .each k l, in-class-here p cs xs, ap (in-class p cs xs) ek, in-class-le (p + 1) cs xs (getD cs p 0) (omega arith))
+
+-- the count of a class at one place more
+pub in-class-more : (n : ℕ) (cs xs : List ℕ) (c : ℕ) → c ≡ getD cs n 0 → in-class (n + 1) cs xs c ≡ in-class n cs xs c + getD xs n 0
+in-class-more n cs xs c e = omega (arith, in-class-here n cs xs, ap (in-class (n + 1) cs xs) e, ap (in-class n cs xs) e)

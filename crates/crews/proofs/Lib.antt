@@ -1,3 +1,4 @@
+pub mod Answering
 pub mod ClassSums
 pub mod Comparing
 pub mod Judging

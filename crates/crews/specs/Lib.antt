@@ -6,5 +6,6 @@ pub mod Shows
 pub mod Swaps
 pub mod Pairs
 pub mod Counting
+pub mod Following
 pub mod Verdicts
 pub mod Compares

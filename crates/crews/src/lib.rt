@@ -6,6 +6,7 @@ mod counting;
 mod crew;
 mod pairing;
 mod runs;
+mod search;
 mod stub;
 mod swap;
 
