@@ -28,9 +28,8 @@ use Rattle.team.proofs.Theorems.{follow-finds, follow-keeps, pairs-turn}
 use Rattle.crews.specs.Crews.{Crews, on-side, across, both}
 use Rattle.crews.specs.Counting.{in-class}
 use Rattle.crews.specs.Following.{followed, AnsweredBy, FitsBy, candidate}
-use Rattle.crews.specs.Shows.{Holds}
 use Rattle.crews.proofs.Judging.{same-alike}
-use Rattle.crews.proofs.Tables.{holds-getD}
+use Rattle.crews.proofs.Tables.{FrontOf}
 
 -- ## Fits, by classes and tables
 
@@ -40,7 +39,7 @@ module _ (m : Meaning) (law : Lawful m) (cs : List ℕ) (classed : ClassedBy m c
       tally-cong (m .places) (λ i. cond (same cs c i) (getD xs i 0) 0) (λ i. cond (alike m c i) (getD xs i 0) 0)
       (λ i k. ap (λ b. cond b (getD xs i 0) 0) (same-alike m law cs classed c i l k))
 
-  module _ (t u : ℕ) (known : t < count-of m) (table crew : List ℕ) (h : Holds (m .places) table crew) where
+  module _ (t u : ℕ) (known : t < count-of m) (table crew : List ℕ) (h : FrontOf (m .places) table crew) where
     place-of : (v : ℕ) → v < count-of m → transition m v .place < m .places
     place-of v l = law .each v l .place-known
 
@@ -52,7 +51,7 @@ module _ (m : Meaning) (law : Lawful m) (cs : List ℕ) (classed : ClassedBy m c
           known = f .known;
           label = f .label;
           near = alike-decides m law (transition m t .place) (transition m u .place) p q .0 (sym (same-alike m law cs classed (transition m t .place) (transition m u .place) p q) ∙ f .near);
-          token = omega (arith, f .token, holds-getD (m .places) table crew (transition m u .place) h q);
+          token = omega (arith, f .token, h .at (transition m u .place) q);
           puts = λ c l. sym (held-same (transition m t .puts) c l) ∙ f .puts c l ∙ held-same (transition m u .puts) c l;
         }
 
@@ -64,7 +63,7 @@ module _ (m : Meaning) (law : Lawful m) (cs : List ℕ) (classed : ClassedBy m c
           known = f .known;
           label = f .label;
           near = same-alike m law cs classed (transition m t .place) (transition m u .place) p q ∙ alike-decides m law (transition m t .place) (transition m u .place) p q .1 (f .near);
-          token = omega (arith, f .token, holds-getD (m .places) table crew (transition m u .place) h q);
+          token = omega (arith, f .token, h .at (transition m u .place) q);
           puts = λ c l. held-same (transition m t .puts) c l ∙ f .puts c l ∙ sym (held-same (transition m u .puts) c l);
         }
 
@@ -79,6 +78,12 @@ closure-sum n R (more {xs = xs} {ys = ys} p q l k r rest) =
 pub paired-sum : (m : Meaning) (xs ys : List ℕ) → Paired m xs ys → sum xs ≡ sum ys
 paired-sum m xs ys (R, team, rel) = closure-sum (m .places) R rel
 
+-- a transition that fits puts down as many tokens
+pub fits-total : (m : Meaning) → Lawful m → (t u : ℕ) (ys : List ℕ) → t < count-of m → Fits m t u ys → total-of (transition m t) ≡ total-of (transition m u)
+fits-total m law t u ys known f =
+    paired-sum m (transition m t .puts) (transition m u .puts)
+    (even-paired m law (transition m t .puts) (transition m u .puts) (law .each t known .targets-known) (law .each u (f .known) .targets-known) (f .puts))
+
 module _ (m : Meaning) (law : Lawful m) (xs ys : List ℕ) (pair : Paired m xs ys) (t u : ℕ) (known : t < count-of m) (on : Enabled m t xs) (f : Fits m t u ys) where
   -- the crew across then holds as many tokens as the one on the side
   pub sum-answered : sum (fired m u ys) ≡ sum (fired m t xs)
@@ -86,8 +91,7 @@ module _ (m : Meaning) (law : Lawful m) (xs ys : List ℕ) (pair : Paired m xs y
       let (a, b) = paired-known m law xs ys pair in
       let wt = law .each t known in
       let wu = law .each u (f .known) in
-      let totals : total-of (transition m t) ≡ total-of (transition m u) =
-      paired-sum m (transition m t .puts) (transition m u .puts) (even-paired m law (transition m t .puts) (transition m u .puts) (wt .targets-known) (wu .targets-known) (f .puts)) in
+      let totals = fits-total m law t u ys known f in
       omega (arith, paired-sum m xs ys pair, totals, sum-fired m t xs (omega (arith, a, wt .place-known)) (omega (arith, on)), sum-fired m u ys (omega (arith, b, wu .place-known)) (omega (arith, f .token)))
 
 -- ## On either side

@@ -30,6 +30,7 @@ use Rattle.crews.specs.declared.swap.Verdict.{Verdict}
 use Rattle.crews.specs.declared.swap.Verdict.the-variants.{Alike, Apart}
 use Rattle.crews.specs.declared.call.Call.the-variants.{Compare}
 use Rattle.crews.specs.declared.call.Answer.the-variants.{Refused}
+use Rattle.crews.proofs.Tables.{front-of-holds}
 use Rattle.crews.proofs.Judging.{judged-alike, judged-apart}
 
 module _ {N : Type 0} (m : Meaning) (b : Bench N) (law : Lawful m) (cs : List ℕ) (classed : ClassedBy m cs) (n : ℕ) (en : n ≡ m .places) (before : List Swap) (room : 2 * n ≤ length before) (c : Crews)
@@ -37,7 +38,7 @@ module _ {N : Type 0} (m : Meaning) (b : Bench N) (law : Lawful m) (cs : List �
   pub says-apart : (d : Difference) → DiffersAt n cs (b .left .counts) (b .right .counts) d → Unwritten m c before before d
   says-apart d at = record {
     free = ((λ short. omega (arith, short, room, en)), tt);
-    apart = judged-apart m law cs classed c (b .left .counts) (b .right .counts) (shows .left) (shows .right) d (subst (λ (k : ℕ). DiffersAt k cs (b .left .counts) (b .right .counts) d) en at);
+    apart = judged-apart m law cs classed c (b .left .counts) (b .right .counts) (front-of-holds _ _ _ (shows .left)) (front-of-holds _ _ _ (shows .right)) d (subst (λ (k : ℕ). DiffersAt k cs (b .left .counts) (b .right .counts) d) en at);
     same = refl;
   }
 
@@ -50,7 +51,7 @@ module _ {N : Type 0} (m : Meaning) (b : Bench N) (law : Lawful m) (cs : List �
       record {
         free = ((λ short. omega (arith, short, room, en)), tt);
         list = swap-list T (m .places);
-        alike = judged-alike m law cs classed c (b .left .counts) (b .right .counts) (shows .left) (shows .right) (subst (λ (k : ℕ). Found k cs (b .left .counts) (b .right .counts) None) en level);
+        alike = judged-alike m law cs classed c (b .left .counts) (b .right .counts) (front-of-holds _ _ _ (shows .left)) (front-of-holds _ _ _ (shows .right)) (subst (λ (k : ℕ). Found k cs (b .left .counts) (b .right .counts) None) en level);
         count = count ∙ ap (λ (k : ℕ). length (swap-list T k)) en;
         now-is = written ∙ ap (λ (k : ℕ). swap-list T k ++ drop used before) en;
       }

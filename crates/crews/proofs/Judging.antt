@@ -28,11 +28,10 @@ use Rattle.crews.specs.Crews.{Crews}
 use Rattle.crews.specs.Counting.{in-class, DiffersAt}
 use Rattle.crews.specs.Swaps.{swap-list}
 use Rattle.crews.specs.Pairs.{table-of}
-use Rattle.crews.specs.Shows.{Holds}
 use Rattle.crews.specs.Verdicts.{AlikeBy, ApartBy}
 use Rattle.crews.specs.declared.swap.Difference.{Difference}
 use Rattle.crews.proofs.SwapLists.{length-swaps}
-use Rattle.crews.proofs.Tables.{holds-getD}
+use Rattle.crews.proofs.Tables.{FrontOf}
 
 module _ (m : Meaning) (law : Lawful m) (cs : List ℕ) (classed : ClassedBy m cs) where
   -- two places have one entry exactly when they are bisimilar
@@ -67,25 +66,25 @@ module _ (m : Meaning) (law : Lawful m) (cs : List ℕ) (classed : ClassedBy m c
         greedy-is (m .places) (same cs) xs ys p q l k
         ∙ ap (λ b. cond b (min (getD xs p 0 - tally q (table-of cs xs ys p)) (getD ys q 0 - tally p (λ i. table-of cs xs ys i q))) 0) (same-alike p q l k)
 
--- ## The verdict, from the tables that hold the crews
+-- ## The verdict, from tables with the crews at their fronts
 
-module _ (m : Meaning) (law : Lawful m) (cs : List ℕ) (classed : ClassedBy m cs) (c : Crews) (tl tr : List ℕ) (hl : Holds (m .places) tl (c .left)) (hr : Holds (m .places) tr (c .right)) where
+module _ (m : Meaning) (law : Lawful m) (cs : List ℕ) (classed : ClassedBy m cs) (c : Crews) (tl tr : List ℕ) (hl : FrontOf (m .places) tl (c .left)) (hr : FrontOf (m .places) tr (c .right)) where
   -- a table counts as its crew does
   count-left : (p : ℕ) → class-count m tl p ≡ class-count m (c .left) p
   count-left p =
       tally-cong (m .places) (λ i. cond (alike m p i) (getD tl i 0) 0) (λ i. cond (alike m p i) (getD (c .left) i 0) 0)
-      (λ i l. ap (λ (x : ℕ). cond (alike m p i) x 0) (holds-getD (m .places) tl (c .left) i hl l))
+      (λ i l. ap (λ (x : ℕ). cond (alike m p i) x 0) (hl .at i l))
 
   count-right : (p : ℕ) → class-count m tr p ≡ class-count m (c .right) p
   count-right p =
       tally-cong (m .places) (λ i. cond (alike m p i) (getD tr i 0) 0) (λ i. cond (alike m p i) (getD (c .right) i 0) 0)
-      (λ i l. ap (λ (x : ℕ). cond (alike m p i) x 0) (holds-getD (m .places) tr (c .right) i hr l))
+      (λ i l. ap (λ (x : ℕ). cond (alike m p i) x 0) (hr .at i l))
 
   greedy-crews : Greedy (m .places) (alike m) (c .left) (c .right) (table-of cs tl tr)
   greedy-crews p q l k =
       greedy-alike m law cs classed tl tr p q l k
       ∙ ap₂ (λ (a b : ℕ). cond (alike m p q) (min (a - tally q (table-of cs tl tr p)) (b - tally p (λ i. table-of cs tl tr i q))) 0)
-      (holds-getD (m .places) tl (c .left) p hl l) (holds-getD (m .places) tr (c .right) q hr k)
+      (hl .at p l) (hr .at q k)
 
   pub judged-alike : ((x : ℕ) → x < m .places → in-class (m .places) cs tl x ≡ in-class (m .places) cs tr x) → AlikeBy m c (swap-list (table-of cs tl tr) (m .places))
   judged-alike level =

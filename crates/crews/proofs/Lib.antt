@@ -1,6 +1,7 @@
 pub mod Answering
 pub mod ClassSums
 pub mod Comparing
+pub mod Following
 pub mod Judging
 pub mod PutDown
 pub mod Replaying

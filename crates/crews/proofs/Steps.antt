@@ -15,13 +15,13 @@ use Rattle.net.specs.declared.refusal.Refusal.the-variants.{TooFewTokens, TooMa
 use Rattle.net.proofs.Markings.{sum-more, sum-fired}
 use Rattle.net.proofs.Refusals.{first-front, first-back, free-append}
 use Rattle.crews.specs.Crews.{Crews, on-side, with-side}
-use Rattle.crews.specs.Calls.{unknown, lacking, crowded, Meets, Tried-in-order}
+use Rattle.crews.specs.Calls.{unknown, lacking, not-ready, crowded, Meets, Tried-in-order}
 use Rattle.crews.specs.Tally.{Step, refused, put, taken, moved, counted}
-use Rattle.crews.specs.Shows.{Holds, Shows, Steps, table-on, with-table}
+use Rattle.crews.specs.Shows.{Holds, Shows, Steps, Ready, table-on, with-table}
 use Rattle.crews.specs.declared.bench.Bench.{Bench}
 use Rattle.crews.specs.declared.crew.Crew.{Crew}
 use Rattle.crews.specs.declared.call.Call.{Call}
-use Rattle.crews.specs.declared.call.Call.the-variants.{Put, Take, Fire, Count, Compare}
+use Rattle.crews.specs.declared.call.Call.the-variants.{Put, Take, Fire, Follow, Count, Compare}
 use Rattle.crews.specs.declared.call.Answer.the-variants.{Done, Tokens, Refused}
 use Rattle.crews.proofs.Tables.{holds-getD, holds-sum, holds-set, holds-fired, shows-side, shows-with}
 
@@ -29,6 +29,7 @@ pub tried-in-order : Tried-in-order
 tried-in-order m c (Put s p k) = (omega arith, (omega arith, (omega arith, tt)))
 tried-in-order m c (Take s p k) = (omega arith, (omega arith, (omega arith, tt)))
 tried-in-order m c (Fire s t) = (omega arith, (omega arith, (omega arith, (omega arith, tt))))
+tried-in-order m c (Follow s t) = (omega arith, (omega arith, (omega arith, (omega arith, (omega arith, tt)))))
 tried-in-order m c (Compare room) = (omega arith, tt)
 tried-in-order m c (Count s p) = (omega arith, (omega arith, tt))
 
@@ -106,39 +107,46 @@ module _ {N : Type 0} (m : Meaning) (b : Bench N) (s : ℕ) (y : Crew) (ey : y �
   count-steps p k e free c h =
       (c, h, subst (λ (j : ℕ). Step m c (Count s p) (Tokens j) c) (sym (e ∙ same-getD p c (below free) h)) (counted s p free))
 
-  -- ### Fire, of a transition t that there is; the crew on the side has a token on its place
+-- ## A transition that may fire: y is the table on its side
 
-  module _ (t : ℕ) (law : Lawful m) (free : Free (unknown (count-of m) s t)) where
-    same-tokens : (c : Crews) → Shows m b c → getD (y .counts) (transition m t .place) 0 ≡ getD (on-side c s) (transition m t .place) 0
-    same-tokens c h = same-getD (transition m t .place) c (law .each t (below free) .place-known) h
+pub lacking-first : {N : Type 0} (m : Meaning) (b : Bench N) (s t : ℕ) (y : Crew) → Lawful m → y ≡ table-on b s → Free (unknown (count-of m) s t) → getD (y .counts) (transition m t .place) 0 < 1
+    → (f : Fault) → f ≡ plain TooFewTokens → (c : Crews) → Shows m b c → First (not-ready m c s t) f
+lacking-first m b s t y law ey free none f ef c h =
+    first-back (unknown (count-of m) s t) (lacking (on-side c s) (transition m t .place) 1) f free
+    (inl (omega (arith, none, same-getD m b s y ey (transition m t .place) c (law .each t (below free) .place-known) h), sym ef))
 
-    pub fire-lacking : (f : Fault) → f ≡ plain TooFewTokens → getD (y .counts) (transition m t .place) 0 < 1 → Steps m b (Fire s t) (Refused f) b
-    fire-lacking f ef none = stays m b (Fire s t) f
-        (λ c h. first-back (unknown (count-of m) s t) (lacking (on-side c s) (transition m t .place) 1 ++ crowded (fired m t (on-side c s))) f free
-        (inl (omega (arith, none, same-tokens c h), sym ef)))
+pub not-ready-steps : {N : Type 0} (m : Meaning) (b : Bench N) (call : Call) (s t : ℕ) (rest : Crews → List Row) (f : Fault) → ((c : Crews) → Meets m c call ≡ not-ready m c s t ++ rest c)
+    → ((c : Crews) → Shows m b c → First (not-ready m c s t) f) → Steps m b call (Refused f) b
+not-ready-steps m b call s t rest f rows first =
+    stays m b call f (λ c h. subst (λ (ws : List Row). First ws f) (sym (rows c)) (first-front (not-ready m c s t) (rest c) f (first c h)))
 
-    module _ (there : 1 ≤ getD (y .counts) (transition m t .place) 0) where
-      token : (c : Crews) → Shows m b c → Free (lacking (on-side c s) (transition m t .place) 1)
-      token c h = ((λ q. omega (arith, q, there, same-tokens c h)), tt)
+module _ {N : Type 0} (m : Meaning) (b : Bench N) (s t : ℕ) (y : Crew) (law : Lawful m) (ready : Ready m b s t y) where
+  pub same-tokens : (c : Crews) → Shows m b c → getD (y .counts) (transition m t .place) 0 ≡ getD (on-side c s) (transition m t .place) 0
+  same-tokens c h = same-getD m b s y (ready .is-table) (transition m t .place) c (law .each t (ready .known) .place-known) h
 
-      pub fire-crowded : (f : Fault) → f ≡ plain TooManyTokens → 4096 < sum (fired m t (y .counts)) → Steps m b (Fire s t) (Refused f) b
-      fire-crowded f ef many = stays m b (Fire s t) f
-          (λ c h. first-back (unknown (count-of m) s t) (lacking (on-side c s) (transition m t .place) 1 ++ crowded (fired m t (on-side c s))) f free
-          (first-back (lacking (on-side c s) (transition m t .place) 1) (crowded (fired m t (on-side c s))) f (token c h)
-          (inl (omega (arith, many, sum-after t c law (below free) h), sym ef))))
+  pub free-ready : (c : Crews) → Shows m b c → Free (not-ready m c s t)
+  free-ready c h =
+      free-append (unknown (count-of m) s t) (lacking (on-side c s) (transition m t .place) 1)
+      ((λ q. omega (arith, q, ready .side-known)), ((λ q. omega (arith, q, ready .known)), tt))
+      ((λ q. omega (arith, q, ready .token, same-tokens c h)), tt)
 
-      pub fire-steps : (b′ : Bench N) (x : Crew) → b′ ≡ with-table b s x → x .counts ≡ fired m t (y .counts) → sum (fired m t (y .counts)) ≤ 4096 → Steps m b (Fire s t) Done b′
-      fire-steps b′ x eb e few c h = (
-        with-side c s (fired m t (on-side c s)),
-        shows-with m b b′ s x c (fired m t (on-side c s)) eb h
-            (subst (λ xs. Holds (m .places) xs (fired m t (on-side c s))) (sym e) (holds-fired m t (y .counts) (on-side c s) law (below free) (shows-side m b s y c ey h))),
-        moved s t (free-append (unknown (count-of m) s t) (lacking (on-side c s) (transition m t .place) 1 ++ crowded (fired m t (on-side c s))) free
-            (free-append (lacking (on-side c s) (transition m t .place) 1) (crowded (fired m t (on-side c s))) (token c h)
-            ((λ q. omega (arith, q, few, sum-after t c law (below free) h)), tt))),
-      )
+  pub sum-side : (c : Crews) → Shows m b c → sum (fired m t (y .counts)) ≡ sum (fired m t (on-side c s))
+  sum-side c h = sum-after m b s y (ready .is-table) t c law (ready .known) h
 
--- how many tokens a table holds when a transition has fired
-pub sum-fired-table : (m : Meaning) (s t : ℕ) (ys : List ℕ) → Lawful m → Free (unknown (count-of m) s t) → length ys ≡ 128 → 1 ≤ getD ys (transition m t .place) 0
-    → sum (fired m t ys) + 1 ≡ sum ys + total-of (transition m t)
-sum-fired-table m s t ys law free whole there =
-    sum-fired m t ys (omega (arith, law .each t (below free) .place-known, law .few-places, whole)) there
+  pub sum-ready : length (y .counts) ≡ 128 → sum (fired m t (y .counts)) + 1 ≡ sum (y .counts) + total-of (transition m t)
+  sum-ready whole = sum-fired m t (y .counts) (omega (arith, law .each t (ready .known) .place-known, law .few-places, whole)) (ready .token)
+
+  pub holds-after : (x : Crew) (c : Crews) → Shows m b c → x .counts ≡ fired m t (y .counts) → Holds (m .places) (x .counts) (fired m t (on-side c s))
+  holds-after x c h e =
+      subst (λ xs. Holds (m .places) xs (fired m t (on-side c s))) (sym e) (holds-fired m t (y .counts) (on-side c s) law (ready .known) (shows-side m b s y c (ready .is-table) h))
+
+  pub fire-crowded : (f : Fault) → f ≡ plain TooManyTokens → 4096 < sum (fired m t (y .counts)) → Steps m b (Fire s t) (Refused f) b
+  fire-crowded f ef many = stays m b (Fire s t) f
+      (λ c h. first-back (not-ready m c s t) (crowded (fired m t (on-side c s))) f (free-ready c h) (inl (omega (arith, many, sum-side c h), sym ef)))
+
+  pub fire-steps : (b′ : Bench N) (x : Crew) → b′ ≡ with-table b s x → x .counts ≡ fired m t (y .counts) → sum (fired m t (y .counts)) ≤ 4096 → Steps m b (Fire s t) Done b′
+  fire-steps b′ x eb e few c h = (
+    with-side c s (fired m t (on-side c s)),
+    shows-with m b b′ s x c (fired m t (on-side c s)) eb h (holds-after x c h e),
+    moved s t (free-append (not-ready m c s t) (crowded (fired m t (on-side c s))) (free-ready c h) ((λ q. omega (arith, q, few, sum-side c h)), tt)),
+  )

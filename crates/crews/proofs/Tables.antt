@@ -5,9 +5,9 @@ use mathlib.Core.Path.{_≡_, refl, sym, ap, subst, _∙_}
 use mathlib.Core.Bool.{Bool, true, false, cond}
 use mathlib.Core.List.{List, _++_}
 use lib.Dec.{eqb}
-use lib.ListN.{length, getD, set}
+use lib.ListN.{length, getD, take, set}
 use Rattle.std.specs.shelf.Lists.{sum}
-use Rattle.std.proofs.shelf.Lists.{replicate-append-replicate, length-replicate, length-append, length-set, getD-append-left, set-append-left}
+use Rattle.std.proofs.shelf.Lists.{replicate-append-replicate, length-replicate, length-append, length-set, getD-append-left, set-append-left, length-take-le, getD-take}
 use Rattle.net.specs.Meaning.{Meaning, transition, count-of}
 use Rattle.net.specs.Limits.{Lawful}
 use Rattle.net.specs.Lists.{zeros, sum-append-zeros}
@@ -46,6 +46,19 @@ holds-fired m t table crew law known h =
       each = length-fired m t crew targets ∙ h .each;
       shown = ap (fired m t) (h .shown) ∙ fired-append m t crew (zeros (128 - m .places)) place targets;
     }
+
+-- ## The front of a table
+
+-- a crew of n places is the front of a table, whatever stands beyond
+pub record FrontOf (n : ℕ) (table crew : List ℕ) : Type 0 where
+  pub each : length crew ≡ n
+  pub at : (p : ℕ) → p < n → getD table p 0 ≡ getD crew p 0
+
+pub front-of-holds : (n : ℕ) (table crew : List ℕ) → Holds n table crew → FrontOf n table crew
+front-of-holds n table crew h = record { each = h .each; at = λ p l. holds-getD n table crew p h l }
+
+pub front-of-take : (n : ℕ) (table : List ℕ) → n ≤ length table → FrontOf n table (take n table)
+front-of-take n table l = record { each = length-take-le n table l; at = λ p k. sym (getD-take n table p 0 k) }
 
 -- ## A table of a bench
 

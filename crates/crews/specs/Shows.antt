@@ -4,22 +4,23 @@ use mathlib.Core.Path.{_≡_}
 use mathlib.Core.Bool.{cond}
 use mathlib.Core.List.{List, [], _∷_, _++_}
 use lib.Dec.{eqb}
-use lib.ListN.{length, take, drop}
+use lib.ListN.{length, getD, take, drop}
 use Rattle.std.specs.declared.result.Result.{Result}
 use Rattle.std.specs.declared.result.Result.the-variants.{Ok, Err}
-use Rattle.net.specs.Meaning.{Meaning}
+use Rattle.net.specs.Meaning.{Meaning, transition, count-of}
 use Rattle.net.specs.Limits.{most-places}
 use Rattle.net.specs.Lists.{zeros}
 use Rattle.net.specs.Refusals.{when, First, Free}
 use Rattle.net.specs.declared.refusal.Refusal.the-variants.{ShortList}
 use Rattle.net.specs.declared.refusal.Fault.{Fault}
 use Rattle.crews.specs.Crews.{Crews}
+use Rattle.crews.specs.Calls.{not-ready}
 use Rattle.crews.specs.Tally.{Step, Event, Run, events}
 use Rattle.crews.specs.declared.bench.Bench.{Bench}
 use Rattle.crews.specs.declared.crew.Crew.{Crew}
 use Rattle.crews.specs.declared.call.Call.{Call}
 use Rattle.crews.specs.declared.call.Answer.{Answer}
-use Rattle.crews.specs.declared.call.Answer.the-variants.{Done, Tokens, Alike, Apart, Refused}
+use Rattle.crews.specs.declared.call.Answer.the-variants.{Done, Tokens, Followed, Alike, Apart, Refused}
 use Rattle.crews.specs.declared.swap.Swap.{Swap}
 use Rattle.crews.specs.declared.swap.Verdict.{Verdict}
 use Rattle.crews.specs.declared.swap.Verdict.the-variants.{Alike as VerdictAlike, Apart as VerdictApart}
@@ -45,6 +46,17 @@ with-table b s x = cond (eqb s 0) (record { net = b .net; left = x; right = b .r
 abbrev pub Steps : {N : Type 0} → Meaning → Bench N → Call → Answer → Bench N → Type 0
 Steps m b call a b′ = (c : Crews) → Shows m b c → (d : Crews) × Shows m b′ d × Step m c call a d
 
+-- The table on side s with a token on the place of t, or the first of the reasons that there is none.
+pub record Ready {N : Type 0} (m : Meaning) (b : Bench N) (s t : ℕ) (y : Crew) : Type 0 where
+  pub is-table : y ≡ table-on b s
+  pub side-known : s ≤ 1
+  pub known : t < count-of m
+  pub token : 1 ≤ getD (y .counts) (transition m t .place) 0
+
+abbrev pub ReadyOr : {N : Type 0} → Meaning → Bench N → ℕ → ℕ → Result Crew Fault → Type 0
+ReadyOr m b s t (Ok y) = Ready m b s t y
+ReadyOr m b s t (Err f) = (c : Crews) → Shows m b c → First (not-ready m c s t) f
+
 -- the answers of the bench's methods
 abbrev pub done-or : Result (Unit {0}) Fault → Answer
 done-or (Ok _) = Done
@@ -53,6 +65,10 @@ done-or (Err f) = Refused f
 abbrev pub tokens-or : Result ℕ Fault → Answer
 tokens-or (Ok k) = Tokens k
 tokens-or (Err f) = Refused f
+
+abbrev pub followed-or : Result ℕ Fault → Answer
+followed-or (Ok u) = Followed u
+followed-or (Err f) = Refused f
 
 abbrev pub said-or : Result Verdict Fault → List Swap → Answer
 said-or (Ok (VerdictAlike used)) entries = Alike (record { entries = entries; used = used })

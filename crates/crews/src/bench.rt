@@ -4,12 +4,15 @@ ghost use mathlib.Core.Path.{_≡_};
 ghost use lib.ListN.{getD};
 ghost use Rattle.net.specs.Meaning.{count-of};
 ghost use Rattle.net.specs.Refusals.{Tried};
+ghost use Rattle.team.specs.Classes.{ClassedBy};
 ghost use Rattle.crews.specs.Crews.{nobody};
 ghost use Rattle.crews.specs.Calls.{unknown};
-ghost use Rattle.crews.specs.Shows.{Shows, Steps, table-on, with-table, done-or, tokens-or};
+ghost use Rattle.crews.specs.Shows.{Shows, Steps, ReadyOr, table-on, with-table, done-or, tokens-or};
 ghost use Rattle.crews.specs.declared.call.Call.the-variants.{Put, Take, Fire, Count};
 use crate::crew::Crew;
+use crate::stub::classes;
 use net::Fault;
+use net::MOST_PLACES;
 use net::Net;
 use net::Refusal;
 
@@ -77,17 +80,34 @@ impl<N: Net> Bench<N> {
         ensures same { λ _. ⌜ now (self .exit) .net ≡ now (self .entry) .net ⌝ }
         ensures steps { λ r. ⌜ Steps (N·Net .meaning (now (self .entry) .net)) (now (self .entry)) (Fire side transition) (done-or r) (now (self .exit)) ⌝ }
     {
-        self.knows_transition(side, transition)?;
-        let mut crew = self.crew(side);
-        if crew.at(self.net.place(transition)) < 1 {
-            return Err(Fault::plain(Refusal::TooFewTokens));
-        }
+        let mut crew = self.ready(side, transition)?;
         if usize::from(self.net.total(transition)) > crew.room() + 1 {
             return Err(Fault::plain(Refusal::TooManyTokens));
         }
         crew.fire(&self.net, transition);
         self.replace(side, crew);
         Ok(())
+    }
+
+    // The crew on a side, with a token on the place of a transition.
+    pub(crate) fn ready(&self, side: usize, transition: usize) -> Result<Crew, Fault>
+        ensures { λ r. ⌜ ReadyOr (N·Net .meaning (now (self .entry) .net)) (now (self .entry)) side transition r ⌝ }
+    {
+        self.knows_transition(side, transition)?;
+        let crew = self.crew(side);
+        if crew.at(self.net.place(transition)) < 1 {
+            return Err(Fault::plain(Refusal::TooFewTokens));
+        }
+        Ok(crew)
+    }
+
+    // The class of each place.
+    pub(crate) fn class_table(&self) -> [u8; MOST_PLACES]
+        ensures { λ r. ⌜ ClassedBy (N·Net .meaning (now (self .entry) .net)) r ⌝ }
+    {
+        let mut table = [0; MOST_PLACES];
+        let _ = classes(&self.net, &mut table);
+        table
     }
 
     // Refuses a side or a place that there is not.
@@ -105,14 +125,14 @@ impl<N: Net> Bench<N> {
     }
 
     // The table of the crew on a side.
-    fn crew(&self, side: usize) -> Crew
+    pub(crate) fn crew(&self, side: usize) -> Crew
         ensures { λ r. ⌜ r ≡ table-on (now (self .entry)) side ⌝ }
     {
         if side == 0 { self.left } else { self.right }
     }
 
     // Puts another table in the place of a side's.
-    fn replace(&mut self, side: usize, crew: Crew)
+    pub(crate) fn replace(&mut self, side: usize, crew: Crew)
         ensures { λ _. ⌜ now (self .exit) ≡ with-table (now (self .entry)) side crew ⌝ }
     {
         if side == 0 {

@@ -26,6 +26,10 @@ pub enum Call {
         side: usize,
         transition: usize,
     },
+    Follow {
+        side: usize,
+        transition: usize,
+    },
     Count {
         side: usize,
         place: usize,
@@ -42,6 +46,8 @@ pub enum Answer {
     Done,
     // how many tokens there are
     Tokens(u16),
+    // the transition that answered across
+    Followed(usize),
     // the crews are alike, and this is the swap list
     Alike(SwapList),
     // the crews are apart, and here they differ

@@ -5,9 +5,7 @@ use crate::Swap;
 use crate::Verdict;
 use crate::counting::difference;
 use crate::pairing::pair;
-use crate::stub::classes;
 use net::Fault;
-use net::MOST_PLACES;
 use net::Net;
 use net::Refusal;
 
@@ -20,8 +18,7 @@ impl<N: Net> Bench<N> {
         if list.len() < 2 * places {
             return Err(Fault::plain(Refusal::ShortList));
         }
-        let mut table = [0; MOST_PLACES];
-        classes(&self.net, &mut table)?;
+        let table = self.class_table();
         let left = self.left.counts;
         let right = self.right.counts;
         match difference(places, &table, &left, &right) {

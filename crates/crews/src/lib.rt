@@ -4,6 +4,7 @@ mod call;
 mod compare;
 mod counting;
 mod crew;
+mod follow;
 mod pairing;
 mod runs;
 mod search;

@@ -1,7 +1,7 @@
 // Calls as values: one performed on a bench, or a list of them from an empty bench on.
 ghost use mathlib.Core.Path.{_≡_};
 ghost use Rattle.crews.specs.Calls.{Tried-in-order};
-ghost use Rattle.crews.specs.Shows.{Steps, Extends, ReplayedOr, done-or, tokens-or, said-or};
+ghost use Rattle.crews.specs.Shows.{Steps, Extends, ReplayedOr, done-or, tokens-or, followed-or, said-or};
 ghost use Rattle.crews.specs.declared.call.Call.the-variants.{Compare};
 use crate::Answer;
 use crate::Bench;
@@ -28,6 +28,15 @@ fn tokens(r: Result<u16, Fault>) -> Answer
 {
     match r {
         Ok(k) => Answer::Tokens(k),
+        Err(f) => Answer::Refused(f),
+    }
+}
+
+fn followed(r: Result<usize, Fault>) -> Answer
+    ensures { λ a. ⌜ a ≡ followed-or r ⌝ }
+{
+    match r {
+        Ok(u) => Answer::Followed(u),
         Err(f) => Answer::Refused(f),
     }
 }
@@ -76,6 +85,7 @@ fn answer<N: Net>(bench: &mut Bench<N>, call: Call) -> Answer
         Call::Put { side, place, count } => done(bench.put(side, place, count)),
         Call::Take { side, place, count } => done(bench.take(side, place, count)),
         Call::Fire { side, transition } => done(bench.fire(side, transition)),
+        Call::Follow { side, transition } => followed(bench.follow(side, transition)),
         Call::Count { side, place } => tokens(bench.count(side, place)),
         Call::Compare { room } => compared(bench, room),
     }
