@@ -3,7 +3,11 @@ use Prim.Native.Nat.{ℕ, zero, suc, _+_, _-_, _≤_, _<_}
 use mathlib.Core.Path.{_≡_, refl, sym, ap}
 use mathlib.Core.Bool.{Bool, true, false, cond}
 use mathlib.Core.Logic.{inl, inr, _≢_}
+use mathlib.Core.List.{List, [], _∷_}
 use native.Mathlib.Omega.{arith}
+use lib.ListN.{length, getD}
+use Rattle.std.specs.shelf.Lists.{sumBy}
+use Rattle.std.proofs.shelf.Sums.{sumBy-cons}
 use Rattle.std.proofs.shelf.Tests.{cases-eq, cases-lt}
 use Rattle.team.specs.Below.{tally}
 
@@ -71,6 +75,12 @@ pub tally-grows : (n k : ℕ) (f : ℕ → ℕ) → k ≤ n → tally k f ≤ ta
 tally-grows zero k f l = let e : k ≡ 0 = omega arith in rw e (omega arith)
 tally-grows (suc n) k f l = elim (cases-eq k (suc n)) [ inl e ↦ rw e (omega arith) | inr d ↦ omega (arith, tally-grows n k f (omega arith)) ]
 
+-- the terms before k, and a later one
+pub tally-past : (n k i : ℕ) (f : ℕ → ℕ) → k ≤ i → i < n → tally k f + f i ≤ tally n f
+tally-past zero k i f a b = absurd (omega arith)
+tally-past (suc n) k i f a b =
+    elim (cases-eq i n) [ inl e ↦ omega (arith, ap f e, tally-grows n k f (omega arith)) | inr d ↦ omega (arith, tally-past n k i f a (omega arith)) ]
+
 -- a sum of which each step keeps within x
 pub tally-within : (n x : ℕ) (f : ℕ → ℕ) → ((i : ℕ) → i < n → f i ≤ x - tally i f) → tally n f ≤ x
 tally-within zero x f h = omega arith
@@ -116,3 +126,13 @@ cond-plus false x y = refl
 pub cond-some : (b : Bool) (x : ℕ) → 0 < cond b x 0 → (b ≡ true) × (0 < x)
 cond-some true x h = (refl, h)
 cond-some false x h = absurd (omega arith)
+
+-- ## Sums of a list
+
+pub tally-cons : (n : ℕ) (f : ℕ → ℕ) → tally (suc n) f ≡ f 0 + tally n (λ i. f (suc i))
+tally-cons zero f = refl
+tally-cons (suc n) f = omega (arith, tally-cons n f)
+
+pub sumBy-tally : {X : Type 0} (f : X → ℕ) (xs : List X) (d : X) → sumBy f xs ≡ tally (length xs) (λ i. f (getD xs i d))
+sumBy-tally f [] d = refl
+sumBy-tally f (x ∷ xs) d = omega (arith, sumBy-cons f x xs, sumBy-tally f xs d, tally-cons (length xs) (λ i. f (getD (x ∷ xs) i d)))
