@@ -5,9 +5,10 @@ ghost use mathlib.Core.Bool.{true, false};
 ghost use lib.ListN.{take};
 ghost use Rattle.std.specs.declared.result.Result.the-variants.{Ok};
 ghost use Rattle.net.specs.Limits.{most-transitions};
+ghost use Rattle.net.specs.Lists.{zeros};
 ghost use Rattle.records.specs.Check.{checked};
 ghost use Rattle.records.specs.File.{sound, admitted-records, net-of};
-ghost use Rattle.records.specs.Crews.{token-record, Put};
+ghost use Rattle.records.specs.Crews.{crew-after, crew-of, token-record, Put};
 ghost use Rattle.records.specs.FileLaws.{picked, net-lawful, Tells};
 use crate::counts::Counts;
 use crate::file_check::check;
@@ -47,8 +48,11 @@ impl<'a> FileNet<'a> {
     }
 
     // How many records there are to go through: all, or none where the check refuses the bytes.
+    // The crews are empty before the first, and those of the file after the last.
     pub fn records(&self) -> usize
-        ensures { λ r. ⌜ r ≡ admitted-records (now (self .entry) .bytes .now) ⌝ }
+        ensures count { λ r. ⌜ r ≡ admitted-records (now (self .entry) .bytes .now) ⌝ }
+        ensures start { λ _. ⌜ ((side : ℕ) → crew-after (now (self .entry) .bytes .now) side 0 ≡ zeros (net-of (now (self .entry) .bytes .now) .places)) ⌝ }
+        ensures finish { λ r. ⌜ ((side : ℕ) → crew-after (now (self .entry) .bytes .now) side r ≡ crew-of (now (self .entry) .bytes .now) side) ⌝ }
     {
         self.size
     }
