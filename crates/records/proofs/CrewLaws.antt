@@ -1,13 +1,12 @@
 -- The crews of a file grow by its token records, and hold what the check has counted.
-use Prim.Native.Nat.{ℕ, zero, suc, _+_, _*_, _≤_, _<_}
-use native.Mathlib.Nat.{add-zero}
+use Prim.Native.Nat.{ℕ, zero, suc, _+_, _≤_, _<_}
 use native.Mathlib.Numerals.{add-one}
 use native.Mathlib.Omega.{arith}
 use mathlib.Core.Path.{_≡_, refl, sym, ap, subst, _∙_}
 use mathlib.Core.Logic.{⊎-elim}
 use mathlib.Core.Bool.{Bool, true, false, cond, _&&_}
 use mathlib.Core.List.{List, [], map}
-use lib.Dec.{leb, ltb, eqb}
+use lib.Dec.{leb, eqb}
 use lib.ListN.{length, getD, set, drop, length-set, length-replicate}
 use lib.Seq.{getD-set-same, getD-set-other}
 use Rattle.std.specs.Iters.{counting}
@@ -16,26 +15,26 @@ use Rattle.std.specs.Results as results
 use Rattle.std.specs.Results.{isOk}
 use Rattle.std.specs.shelf.Lists.{sum}
 use Rattle.std.specs.declared.option.Option.{Option}
-use Rattle.std.specs.declared.option.Option.the-variants.{Some, None}
+use Rattle.std.specs.declared.option.Option.the-variants.{None}
 use Rattle.std.specs.declared.result.Result.{Result}
 use Rattle.std.specs.declared.result.Result.the-variants.{Ok, Err}
 use Rattle.std.proofs.shelf.Counted.{fill-by-all, length-map-counting, getD-map-counting}
-use Rattle.std.proofs.shelf.Tests.{and-parts, leb-true, ltb-true, lt-ltb, le-ltb, eqb-true, eqb-false, eq-eqb, ne-eqb, cases-eq}
+use Rattle.std.proofs.shelf.Tests.{and-parts, leb-true, ltb-true, lt-ltb, le-ltb, eq-eqb, ne-eqb, cases-eq}
 use Rattle.net.specs.declared.refusal.Fault.{Fault}
-use Rattle.net.specs.Meaning.{count-of, empty}
+use Rattle.net.specs.Meaning.{empty}
 use Rattle.net.specs.Limits.{most-tokens}
 use Rattle.net.specs.Lists.{zeros, getD-zeros}
 use Rattle.records.specs.declared.counts.Counts.{Counts}
 use Rattle.records.specs.declared.tokens.Tokens.{Tokens}
 use Rattle.records.specs.Layout.{place-kind, transition-kind, tokens-kind, head-size, record-count, record-at, at}
 use Rattle.records.specs.Entry.{Entry, declares, moves, holds, broken, place-form, transition-form, tokens-form, place-reading, transition-reading, tokens-reading, two-bytes, targets-of, reading}
-use Rattle.records.specs.Check.{counted, known, checked, checked-to, counts-of}
-use Rattle.records.specs.CheckLaws.{Few, Passed, passed-at, few-at, places-mono, counts-are, few-to}
+use Rattle.records.specs.Check.{counted, known, checked, counts-of}
+use Rattle.records.specs.CheckLaws.{passed-at, few-at, places-mono, counts-are, few-to}
 use Rattle.records.specs.File.{sound, admitted-records, declared-places, declared-net, net-of, transition-records}
 use Rattle.records.specs.TargetLaws.{over, over-none, over-add, over-only, only}
-use Rattle.records.specs.FileLaws.{Admits, admits, checked-all, count-is, picked, length-transition-records}
+use Rattle.records.specs.FileLaws.{Admits, admits, checked-all, count-is, length-transition-records}
 use Rattle.records.specs.Tokens.{tokens-said}
-use Rattle.records.specs.Crews.{added, held, crew-after, crew-of, token-record, with-tokens, Lawful-put, Put, Measures}
+use Rattle.records.specs.Crews.{added, held, crew-after, token-record, with-tokens, Lawful-put, Put, Measures}
 
 -- ## Lists made by a function of the place
 

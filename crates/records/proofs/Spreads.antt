@@ -2,12 +2,11 @@
 use Prim.Native.Nat.{ℕ, zero, suc, _+_, _-_, _≤_, _<_}
 use native.Mathlib.Numerals.{add-one}
 use native.Mathlib.Omega.{arith}
-use mathlib.Core.Path.{_≡_, refl, sym, ap, ap₂, subst, _∙_}
+use mathlib.Core.Path.{_≡_, refl, sym, ap, subst, _∙_}
 use mathlib.Core.Bool.{Bool, true, false, cond, _&&_}
-use mathlib.Core.List.{List, [], _∷_, _++_, map}
+use mathlib.Core.List.{List, [], _∷_, _++_}
 use lib.Dec.{eqb, ltb, leb}
-use lib.ListN.{length, getD, take, drop, replicate, length-append}
-use Rattle.std.specs.Iters.{counting}
+use lib.ListN.{length, take, drop, replicate, length-append}
 use Rattle.std.specs.shelf.Lists.{sum}
 use Rattle.std.proofs.shelf.Lists.{length-replicate, take-at, drop-at, take-all}
 use Rattle.std.proofs.shelf.Sums.{sumBy-more, sumBy-append, sumBy-cons, sumBy-take-le}
@@ -15,7 +14,7 @@ use Rattle.std.proofs.shelf.Counted.{fill-by-all}
 use Rattle.std.proofs.shelf.Tests.{and-parts, and-from, ltb-true, lt-ltb, le-leb, eqb-true, eqb-false, ne-eqb}
 use Rattle.net.specs.Meaning.{Meaning, Transition, transition, count-of, tokens-on, total-of}
 use Rattle.net.specs.Limits.{Within, Lawful, most-label}
-use Rattle.records.specs.Layout.{record-size, record-targets, no-target}
+use Rattle.records.specs.Layout.{record-targets, no-target}
 use Rattle.records.specs.Entry.{moves, broken, below, rising, blank, padded, transition-form, reading}
 use Rattle.records.specs.EntryLaws.{reading-kind}
 use Rattle.records.specs.File.{tokens-to, transition-of}

@@ -5,7 +5,7 @@ use native.Mathlib.Numerals.{add-one}
 use native.Mathlib.Omega.{arith}
 use mathlib.Core.Path.{_≡_, refl, sym, ap, subst, _∙_}
 use mathlib.Core.Logic.{⊎-elim}
-use mathlib.Core.Bool.{Bool, true, false, cond, _&&_}
+use mathlib.Core.Bool.{Bool, true, false, cond}
 use mathlib.Core.List.{List}
 use lib.Dec.{eqb, leb, ltb}
 use lib.ListN.{length, length-take, length-drop}
@@ -13,14 +13,13 @@ use Rattle.std.proofs.shelf.Tests.{and-parts, ltb-true, leb-true, cases-lt}
 use Rattle.std.specs.declared.result.Result.{Result}
 use Rattle.std.specs.declared.result.Result.the-variants.{Ok, Err}
 use Rattle.net.specs.declared.refusal.Refusal.{Refusal}
-use Rattle.net.specs.declared.refusal.Refusal.the-variants.{PartialRecord, MalformedRecord, UndeclaredPlace, OverLimit, TooManyTokens}
+use Rattle.net.specs.declared.refusal.Refusal.the-variants.{MalformedRecord, UndeclaredPlace, OverLimit, TooManyTokens}
 use Rattle.net.specs.declared.refusal.Fault.{Fault}
-use Rattle.net.specs.Refusals.{at-spot}
 use Rattle.net.specs.Limits.{most-places, most-transitions, most-tokens}
 use Rattle.records.specs.declared.counts.Counts.{Counts}
-use Rattle.records.specs.Layout.{record-size, most-records, record-count, record-at}
-use Rattle.records.specs.Entry.{Entry, declares, moves, holds, broken, below, reading}
-use Rattle.records.specs.Check.{nothing, tokens-with, counted, well-formed, known, roomy, light, unless, admit, then, checked-to, checked, counts-of}
+use Rattle.records.specs.Layout.{record-size, most-records, record-at}
+use Rattle.records.specs.Entry.{Entry, declares, moves, holds, broken, reading}
+use Rattle.records.specs.Check.{nothing, counted, well-formed, known, roomy, light, unless, admit, then, checked-to, counts-of}
 
 -- ## One record
 

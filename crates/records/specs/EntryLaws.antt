@@ -1,12 +1,12 @@
 -- What the reading of a record tells of its bytes.
 use Prim.Native.Nat.{ℕ, _≤_}
 use native.Mathlib.Omega.{arith}
-use mathlib.Core.Path.{_≡_, refl, sym, ap, subst, _∙_}
+use mathlib.Core.Path.{_≡_, refl, ap, subst, _∙_}
 use mathlib.Core.Bool.{Bool, true, false, cond, _&&_}
 use mathlib.Core.List.{List}
 use lib.Dec.{eqb, leb}
-use lib.ListN.{take, drop}
-use Rattle.std.proofs.shelf.Tests.{false≢true, and-parts, and-from, leb-true, le-leb, eqb-true, eq-eqb, ne-eqb}
+use lib.ListN.{drop}
+use Rattle.std.proofs.shelf.Tests.{false≢true, and-parts, leb-true, eqb-true, eq-eqb, ne-eqb}
 use Rattle.net.specs.Limits.{most-label}
 use Rattle.records.specs.Layout.{at, place-kind, transition-kind, tokens-kind, head-size, record-targets}
 use Rattle.records.specs.Entry.{declares, moves, holds, broken, is-transition, padded, place-form, place-reading, transition-form, transition-reading, targets-of, two-bytes, tokens-form, tokens-reading, reading}

@@ -1,17 +1,13 @@
 use borrow.Author.Needs.{needs}
 use native.Mathlib.Omega.{arith}
-use mathlib.Core.Path.{_≡_, refl, sym, ap, _∙_}
-use mathlib.Core.Bool.{true, false, cond}
+use mathlib.Core.Path.{_≡_, sym, ap, _∙_}
 use Prim.Native.Nat.{_+_, _/_, _%_}
 use lib.ListN.{length}
 use Rattle.std.proofs.shelf.Results.{err-from-errBy}
-use Rattle.std.proofs.shelf.Tests.{eq-eqb, ne-eqb}
 use Rattle.std.specs.declared.result.Result.the-variants.{Ok, Err}
-use Rattle.net.specs.declared.refusal.Refusal.the-variants.{PartialRecord}
-use Rattle.net.specs.Refusals.{at-spot}
-use Rattle.records.specs.Layout.{record-count, record-at}
+use Rattle.records.specs.Layout.{record-at}
 use Rattle.records.specs.Entry.{reading}
-use Rattle.records.specs.Check.{admit, checked-to, checked, counts-of}
+use Rattle.records.specs.Check.{admit, checked, counts-of}
 use Rattle.records.specs.CheckLaws.{stays, few-to, checked-to-more}
 use Rattle.records.proofs.CrewLaws.{measured}
 use Rattle.records.proofs.Verdicts.{means, reasons-rise}

@@ -1,4 +1,3 @@
-use borrow.Author.Needs.{needs}
 use mathlib.Core.Path.{ap}
 use Rattle.records.specs.Crews.{crew-after}
 use Rattle.records.proofs.CrewLaws.{crew-none}
