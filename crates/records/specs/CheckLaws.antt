@@ -167,9 +167,9 @@ module _ (b : List ℕ) where
       let same : i + (n - i) ≡ n = omega arith in
       subst (λ m. checked-to b m ≡ Err f) same (stays-by i (n - i) f h)
 
-  -- one record more, as a loop counts
-  pub checked-to-more : (k : ℕ) (c : Counts) → checked-to b k ≡ Ok c → checked-to b (k + 1) ≡ admit (reading (record-at b k)) k c
-  checked-to-more k c h = rw (add-one, h) refl
+  -- one record more, as a loop counts and reads it
+  pub checked-to-more : (k : ℕ) (c : Counts) (r : List ℕ) (result : Result Counts Fault) → checked-to b k ≡ Ok c → r ≡ record-at b k → result ≡ admit (reading r) k c → checked-to b (k + 1) ≡ result
+  checked-to-more k c r result h read is = rw (add-one, h) (sym (is ∙ ap (λ x. admit (reading x) k c) read))
 
   pub length-record : (k : ℕ) → record-size * k + record-size ≤ length b → length (record-at b k) ≡ record-size
   length-record k h = simp (length-take, length-drop) (omega arith)
