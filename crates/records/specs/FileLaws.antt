@@ -25,7 +25,7 @@ use Rattle.records.specs.Entry.{Entry, declares, moves, holds, broken, is-tran
 use Rattle.records.specs.Check.{counted, known, checked-to, checked, counts-of}
 use Rattle.records.specs.EntryLaws.{Moving, moving}
 use Rattle.records.specs.CheckLaws.{err-not-ok, Few, Before, before, counts-are, few-to, places-grow, length-record}
-use Rattle.records.specs.File.{sound, tokens-to, transition-of, transition-records, declared-places, declared-net, net-of, admitted-records}
+use Rattle.records.specs.File.{sound, tokens-to, transition-of, transition-records, declared-places, declared-net, net-of, admitted-records, picked}
 use Rattle.records.specs.TargetLaws.{below-more, sum-tokens}
 
 -- ## Files that the check admits
@@ -118,10 +118,6 @@ each-placed b (suc k) c h i l = let p = before b k c h in go p (each-placed b k 
     go p all false e = λ i l. placed-more _ (p .counts .places) (c .places) (grown p) (all i l)
 
 -- ## The net
-
--- the transition records of a file, none where the check refuses it
-abbrev pub picked : List ℕ → List ℕ
-picked b = cond (sound b) (transition-records b (record-count b)) []
 
 -- record k as a transition of the net
 abbrev transition-at : List ℕ → ℕ → Transition

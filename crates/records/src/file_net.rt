@@ -7,9 +7,9 @@ ghost use Rattle.std.specs.declared.result.Result.the-variants.{Ok};
 ghost use Rattle.net.specs.Limits.{most-transitions};
 ghost use Rattle.net.specs.Lists.{zeros};
 ghost use Rattle.records.specs.Check.{checked};
-ghost use Rattle.records.specs.File.{sound, admitted-records, net-of};
+ghost use Rattle.records.specs.File.{sound, admitted-records, picked, net-of};
 ghost use Rattle.records.specs.Crews.{crew-after, crew-of, token-record, Put};
-ghost use Rattle.records.specs.FileLaws.{picked, net-lawful, Tells};
+ghost use Rattle.records.specs.FileLaws.{net-lawful, Tells};
 use crate::counts::Counts;
 use crate::file_check::check;
 use crate::index::index_of;
@@ -26,8 +26,10 @@ use net::Net;
 #[derive(Clone, Copy)]
 pub struct FileNet<'a> {
     bytes: &'a [u8],
+    // how many records there are to go through
     size: usize,
     places: usize,
+    // how many transitions there are, and the numbers of their records
     count: usize,
     starts: [u16; MOST_TRANSITIONS],
     ghost whole: { size ≡ admitted-records (bytes .now) },
@@ -69,6 +71,7 @@ impl<'a> FileNet<'a> {
         tokens_in(record_at(self.bytes, k))
     }
 
+    // The empty net of bytes that the check refuses.
     fn refused(bytes: &'a [u8]) -> FileNet<'a>
         requires { ⌜ sound (now bytes) ≡ false ⌝ }
         ensures { λ r. ⌜ r .bytes .now ≡ now (bytes .entry) ⌝ }
@@ -82,6 +85,7 @@ impl<'a> FileNet<'a> {
         }
     }
 
+    // The net of bytes that it admits.
     fn admitted(bytes: &'a [u8], seen: Counts) -> FileNet<'a>
         requires { ⌜ Ok seen ≡ checked (now bytes) ⌝ }
         ensures { λ r. ⌜ r .bytes .now ≡ now (bytes .entry) ⌝ }
