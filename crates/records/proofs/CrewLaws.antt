@@ -1,14 +1,13 @@
 -- The crews of a file grow by its token records, and hold what the check has counted.
-use Prim.Native.Nat.{ℕ, zero, suc, _+_, _*_, _≤_, _<_}
-use native.Mathlib.Nat.{add-zero}
+use Prim.Native.Nat.{ℕ, zero, suc, _+_, _≤_, _<_}
 use native.Mathlib.Numerals.{add-one}
 use native.Mathlib.Omega.{arith}
 use mathlib.Core.Path.{_≡_, refl, sym, ap, subst, _∙_}
 use mathlib.Core.Logic.{⊎-elim}
 use mathlib.Core.Bool.{Bool, true, false, cond, _&&_}
 use mathlib.Core.List.{List, [], map}
-use lib.Dec.{leb, ltb, eqb}
-use lib.ListN.{length, getD, set, drop, length-set}
+use lib.Dec.{leb, eqb}
+use lib.ListN.{length, getD, set, drop, length-set, length-replicate}
 use lib.Seq.{getD-set-same, getD-set-other}
 use Rattle.std.specs.Iters.{counting}
 use Rattle.std.specs.Options.{Cases}
@@ -16,25 +15,26 @@ use Rattle.std.specs.Results as results
 use Rattle.std.specs.Results.{isOk}
 use Rattle.std.specs.shelf.Lists.{sum}
 use Rattle.std.specs.declared.option.Option.{Option}
-use Rattle.std.specs.declared.option.Option.the-variants.{Some, None}
+use Rattle.std.specs.declared.option.Option.the-variants.{None}
 use Rattle.std.specs.declared.result.Result.{Result}
 use Rattle.std.specs.declared.result.Result.the-variants.{Ok, Err}
 use Rattle.std.proofs.shelf.Counted.{fill-by-all, length-map-counting, getD-map-counting}
-use Rattle.std.proofs.shelf.Tests.{and-parts, leb-true, ltb-true, lt-ltb, le-ltb, eqb-true, eqb-false, eq-eqb, ne-eqb, cases-eq}
+use Rattle.std.proofs.shelf.Tests.{and-parts, leb-true, ltb-true, lt-ltb, le-ltb, eq-eqb, ne-eqb, cases-eq}
 use Rattle.net.specs.declared.refusal.Fault.{Fault}
-use Rattle.net.specs.Meaning.{count-of, empty}
+use Rattle.net.specs.Meaning.{empty}
 use Rattle.net.specs.Limits.{most-tokens}
+use Rattle.net.specs.Lists.{zeros, getD-zeros}
 use Rattle.records.specs.declared.counts.Counts.{Counts}
 use Rattle.records.specs.declared.tokens.Tokens.{Tokens}
-use Rattle.records.specs.Layout.{head-size, record-count, record-at, at}
-use Rattle.records.specs.Entry.{Entry, declares, moves, holds, broken, padded, place-form, head-form, tokens-form, place-reading, transition-reading, tokens-reading, two-bytes, targets-of, reading}
-use Rattle.records.specs.Check.{counted, known, checked, checked-to, counts-of}
-use Rattle.records.specs.CheckLaws.{Few, Passed, passed-at, few-at, places-mono, counts-are, few-to}
+use Rattle.records.specs.Layout.{place-kind, transition-kind, tokens-kind, head-size, record-count, record-at, at}
+use Rattle.records.specs.Entry.{Entry, declares, moves, holds, broken, place-form, transition-form, tokens-form, place-reading, transition-reading, tokens-reading, two-bytes, targets-of, reading}
+use Rattle.records.specs.Check.{counted, known, checked, counts-of}
+use Rattle.records.specs.CheckLaws.{passed-at, few-at, places-mono, counts-are, few-to}
 use Rattle.records.specs.File.{sound, admitted-records, declared-places, declared-net, net-of, transition-records}
 use Rattle.records.specs.TargetLaws.{over, over-none, over-add, over-only, only}
-use Rattle.records.specs.FileLaws.{Admits, admits, checked-all, count-is, picked, length-transition-records}
+use Rattle.records.specs.FileLaws.{Admits, admits, checked-all, count-is, length-transition-records}
 use Rattle.records.specs.Tokens.{tokens-said}
-use Rattle.records.specs.Crews.{added, held, crew-after, crew-of, token-record, with-tokens, Lawful-put, Put, Measures}
+use Rattle.records.specs.Crews.{added, held, crew-after, token-record, with-tokens, Lawful-put, Put, Measures}
 
 -- ## Lists made by a function of the place
 
@@ -74,10 +74,9 @@ place-sided : (v : Bool) (number : ℕ) → Sided (cond v (declares number) brok
 place-sided true number = tt
 place-sided false number = tt
 
-transition-sided : (v w : Bool) (place label : ℕ) (ts : List ℕ) → Sided (cond v (cond w (moves place label ts) broken) broken)
-transition-sided true true place label ts = tt
-transition-sided true false place label ts = tt
-transition-sided false w place label ts = tt
+transition-sided : (v : Bool) (place label : ℕ) (ts : List ℕ) → Sided (cond v (moves place label ts) broken)
+transition-sided true place label ts = tt
+transition-sided false place label ts = tt
 
 tokens-sided : (r : List ℕ) (v : Bool) → tokens-form r ≡ v → Sided (cond v (holds (at r 1) (at r 2) (two-bytes (at r 4) (at r 5))) broken)
 tokens-sided r true e =
@@ -87,11 +86,11 @@ tokens-sided r true e =
 tokens-sided r false e = tt
 
 reading-sided : (r : List ℕ) → Sided (reading r)
-reading-sided r = by-kind (eqb (at r 0) 1) (eqb (at r 0) 2) (eqb (at r 0) 3)
+reading-sided r = by-kind (eqb (at r 0) place-kind) (eqb (at r 0) transition-kind) (eqb (at r 0) tokens-kind)
   where
     by-kind : (one two three : Bool) → Sided (cond one (place-reading r) (cond two (transition-reading r) (cond three (tokens-reading r) broken)))
     by-kind true two three = place-sided (place-form r) (at r 1)
-    by-kind false true three = transition-sided (head-form r) (padded (at r 3) (drop head-size r)) (at r 1) (at r 2) (targets-of r)
+    by-kind false true three = transition-sided (transition-form (at r 2) (at r 3) (drop head-size r)) (at r 1) (at r 2) (targets-of r)
     by-kind false false true = tokens-sided r (tokens-form r) refl
     by-kind false false false = tt
 
@@ -110,6 +109,9 @@ added-sum (holds (suc (suc side′)) place m) c n side names l = absurd (omega a
 added-sum broken c n side names l = (omega (arith, over-none n), omega (arith, over-none n))
 
 -- ## The file
+
+pub crew-none : (b : List ℕ) (side : ℕ) → crew-after b side 0 ≡ zeros (net-of b .places)
+crew-none b side = sym (fill-by-all (λ p. 0) (zeros (net-of b .places)) (net-of b .places) 0 (length-replicate (net-of b .places) 0) (λ p l. getD-zeros (net-of b .places) p))
 
 module _ (b : List ℕ) (ok : sound b ≡ true) where
   all : Admits b
@@ -175,9 +177,6 @@ admitted-sound b k h = by-sound (sound b) refl h
     by-sound : (v : Bool) → sound b ≡ v → k < cond v (record-count b) 0 → (sound b ≡ true) × (k < record-count b)
     by-sound true e h = (e, h)
     by-sound false e h = absurd (omega arith)
-
-pub record-inside : (b : List ℕ) (k : ℕ) → k < admitted-records b → k < record-count b
-record-inside b k h = admitted-sound b k h .1
 
 pub put-of : (b : List ℕ) (k : ℕ) (r : Option Tokens) → r ≡ tokens-said (reading (record-at b k)) → k < admitted-records b → Put b k r
 put-of b k r e h = let in-file = admitted-sound b k h in subst (Put b k) (sym e) (put-at b (in-file .0) k (in-file .1))

@@ -3,15 +3,14 @@ use Prim.Native.Nat.{ℕ, zero, suc, _+_, _-_, _≤_, _<_}
 use native.Mathlib.Nat.{add-zero, add-suc}
 use native.Mathlib.Numerals.{add-one}
 use native.Mathlib.Omega.{arith}
-use mathlib.Core.Path.{_≡_, refl, sym, ap, subst, _∙_}
+use mathlib.Core.Path.{_≡_, ap, subst, _∙_}
 use mathlib.Core.Bool.{Bool, true, false, cond}
 use mathlib.Core.List.{List, [], _∷_, _++_}
 use lib.ListN.{length, length-append}
-use Rattle.std.proofs.shelf.Tests.{both-ways, cases-bool}
+use Rattle.std.proofs.shelf.Tests.{cases-bool}
 use mathlib.Core.Logic.{⊎-elim}
 use Rattle.net.specs.Limits.{most-transitions}
 use Rattle.records.specs.Layout.{most-records, record-count, record-at, at}
-use Rattle.records.specs.Check.{counts-of}
 use Rattle.records.specs.Entry.{is-transition, reading}
 use Rattle.records.specs.EntryLaws.{moving, kind-moves}
 use Rattle.records.specs.CheckLaws.{Few, few-to, few-records, counts-are, passed-at}

@@ -2,22 +2,21 @@
 use Prim.Native.Nat.{ℕ, zero, suc, _+_, _-_, _≤_, _<_}
 use native.Mathlib.Numerals.{add-one}
 use native.Mathlib.Omega.{arith}
-use mathlib.Core.Path.{_≡_, refl, sym, ap, ap₂, subst, _∙_}
+use mathlib.Core.Path.{_≡_, refl, sym, ap, subst, _∙_}
 use mathlib.Core.Bool.{Bool, true, false, cond, _&&_}
-use mathlib.Core.List.{List, [], _∷_, _++_, map}
+use mathlib.Core.List.{List, [], _∷_, _++_}
 use lib.Dec.{eqb, ltb, leb}
-use lib.ListN.{length, getD, take, drop, replicate, length-append}
-use Rattle.std.specs.Iters.{counting}
+use lib.ListN.{length, take, drop, replicate, length-append}
 use Rattle.std.specs.shelf.Lists.{sum}
 use Rattle.std.proofs.shelf.Lists.{length-replicate, take-at, drop-at, take-all}
 use Rattle.std.proofs.shelf.Sums.{sumBy-more, sumBy-append, sumBy-cons, sumBy-take-le}
 use Rattle.std.proofs.shelf.Counted.{fill-by-all}
 use Rattle.std.proofs.shelf.Tests.{and-parts, and-from, ltb-true, lt-ltb, le-leb, eqb-true, eqb-false, ne-eqb}
 use Rattle.net.specs.Meaning.{Meaning, Transition, transition, count-of, tokens-on, total-of}
-use Rattle.net.specs.Limits.{Within, Lawful, most-total}
-use Rattle.records.specs.Layout.{record-size, record-targets, no-target}
-use Rattle.records.specs.Entry.{moves, broken, below, rising, blank, padded, reading}
-use Rattle.records.specs.EntryLaws.{reading-transition}
+use Rattle.net.specs.Limits.{Within, Lawful, most-label}
+use Rattle.records.specs.Layout.{record-targets, no-target}
+use Rattle.records.specs.Entry.{moves, broken, below, rising, blank, padded, transition-form, reading}
+use Rattle.records.specs.EntryLaws.{reading-kind}
 use Rattle.records.specs.File.{tokens-to, transition-of}
 use Rattle.records.specs.TargetLaws.{below-more}
 use Rattle.records.specs.Write.{spread, filled, transition-record}
@@ -94,8 +93,10 @@ reading-written n t w =
     let long = length-spread-all n t w in
     let pad : padded (total-of t) bytes ≡ true = padded-filled record-targets ts (total-of t) long (rising-spread t n) in
     let front : take (total-of t) bytes ≡ ts = take-at ts (replicate (record-targets - length ts) no-target) (total-of t) long in
-    reading-transition (transition-record n t) refl (w .label-small) (w .total-small)
-    ∙ ap (λ v. cond v (moves (t .place) (t .label) (take (total-of t) bytes)) broken) pad
+    let small = and-from (leb (t .label) most-label) (leb (total-of t) record-targets) (le-leb (t .label) most-label (w .label-small)) (le-leb (total-of t) record-targets (w .total-small)) in
+    let formed : transition-form (t .label) (total-of t) bytes ≡ true = and-from (leb (t .label) most-label && leb (total-of t) record-targets) (padded (total-of t) bytes) small pad in
+    reading-kind (transition-record n t) refl
+    ∙ ap (λ v. cond v (moves (t .place) (t .label) (take (total-of t) bytes)) broken) formed
     ∙ ap (moves (t .place) (t .label)) front
 
 tokens-same : (q c p : ℕ) → tokens-to (replicate c q) p ≡ cond (eqb q p) c 0

@@ -2,28 +2,26 @@
 use Prim.Native.Nat.{ℕ, zero, suc, _+_, _-_, _*_, _%_, _≤_, _<_, min}
 use native.Mathlib.Omega.{arith}
 use mathlib.Core.Path.{_≡_, refl, sym, ap, ap₂, subst, _∙_}
-use mathlib.Core.Bool.{Bool, true, false, cond, _&&_}
-use mathlib.Core.List.{List, [], _∷_, _++_, map}
+use mathlib.Core.Bool.{true, false, cond, _&&_}
+use mathlib.Core.List.{[], _∷_, _++_, map}
 use mathlib.Core.Logic.{_⊎_, inl, inr, ⊎-elim}
-use lib.Dec.{eqb, ltb, leb}
-use lib.ListN.{length, getD, take, drop, replicate, length-append, length-drop}
+use lib.Dec.{eqb, ltb}
+use lib.ListN.{length, take, drop, length-append, length-drop}
 use Rattle.std.specs.Results.{isOk}
-use Rattle.std.specs.declared.result.Result.{Result}
 use Rattle.std.specs.declared.result.Result.the-variants.{Ok, Err}
 use Rattle.std.proofs.shelf.Lists.{take-all, drop-at, take-append-le, drop-append-le, take-more, map-push}
 use Rattle.std.proofs.shelf.Tests.{and-from, lt-ltb, le-ltb, eq-eqb, cases-lt}
 use Rattle.net.specs.declared.refusal.Refusal.the-variants.{PartialRecord, MalformedRecord, UndeclaredPlace, OverLimit, TooManyTokens}
-use Rattle.net.specs.declared.refusal.Fault.{Fault}
 use Rattle.net.specs.Refusals.{at-spot}
-use Rattle.net.specs.Meaning.{Meaning, Transition, transition, idle, count-of, total-of, empty}
-use Rattle.net.specs.Limits.{Lawful, Within, most-places, most-transitions, most-total}
+use Rattle.net.specs.Meaning.{Meaning, Transition, transition, idle, empty}
+use Rattle.net.specs.Limits.{Lawful, Within, most-places, most-transitions}
 use Rattle.records.specs.declared.counts.Counts.{Counts}
 use Rattle.records.specs.Layout.{record-size, record-targets, most-records, record-count, record-at}
 use Rattle.records.specs.Entry.{Entry, declares, moves, is-transition, below, reading}
 use Rattle.records.specs.Check.{counted, well-formed, known, roomy, light, unless, admit, then, checked-to, checked}
 use Rattle.records.specs.CheckLaws.{counts-are}
 use Rattle.records.specs.File.{sound, transition-of, transition-records, declared-places, declared-net, net-of}
-use Rattle.records.specs.Write.{spread, filled, place-record, transition-record, record-of, written, records-of, bytes-of, file-of}
+use Rattle.records.specs.Write.{spread, place-record, transition-record, record-of, written, records-of, file-of}
 use Rattle.records.proofs.Spreads.{length-spread-all, length-filled, below-spread, reading-written, transition-written}
 
 -- a record that passes each test is admitted
@@ -92,9 +90,6 @@ module _ (m : Meaning) (law : Lawful m) where
   step : (k : ℕ) → k < records-of m → admit (reading (record-of m k)) k (so-far k) ≡ Ok (so-far (suc k))
   step k l = ⊎-elim place move (cases-lt k (m .places))
     where
-      n : ℕ
-      n = m .places
-
       place : k < m .places → admit (reading (record-of m k)) k (so-far k) ≡ Ok (so-far (suc k))
       place h =
           let few = law .few-places in

@@ -1,26 +1,25 @@
 -- The check's result means what a verdict says.
-use Prim.Native.Nat.{ℕ, zero, suc, _+_, _%_, _≤_, _<_}
+use Prim.Native.Nat.{ℕ, zero, suc, _%_, _≤_, _<_}
 use native.Mathlib.Omega.{arith}
-use mathlib.Core.Path.{_≡_, refl, sym, ap, subst, _∙_}
+use mathlib.Core.Path.{_≡_, refl, sym, subst}
 use mathlib.Core.Logic.{_⊎_, inl, inr, ⊎-elim}
 use mathlib.Core.Bool.{Bool, true, false, cond, _&&_}
 use mathlib.Core.List.{List, [], _∷_}
-use lib.Dec.{eqb, leb, ltb}
-use lib.ListN.{length, getD}
+use lib.Dec.{eqb, ltb}
+use lib.ListN.{length}
 use Rattle.std.proofs.shelf.Tests.{false≢true, true≢false, and-parts, and-cases, ltb-true, ltb-false, leb-true, leb-false, eqb-true, eqb-false, cases-lt}
 use Rattle.std.specs.declared.result.Result.{Result}
 use Rattle.std.specs.declared.result.Result.the-variants.{Ok, Err}
-use Rattle.net.specs.declared.refusal.Refusal.{Refusal}
 use Rattle.net.specs.declared.refusal.Refusal.the-variants.{PartialRecord, MalformedRecord, UndeclaredPlace, OverLimit, TooManyTokens}
 use Rattle.net.specs.declared.refusal.Fault.{Fault}
-use Rattle.net.specs.Refusals.{Row, First, Free, Rising, at-spot}
+use Rattle.net.specs.Refusals.{First, Free, Rising, at-spot}
 use Rattle.net.specs.Limits.{most-places, most-transitions, most-tokens}
 use Rattle.records.specs.declared.counts.Counts.{Counts}
 use Rattle.records.specs.Layout.{record-size, most-records, record-count, record-at}
 use Rattle.records.specs.Entry.{Entry, declares, moves, holds, broken, below, reading}
-use Rattle.records.specs.Check.{tokens-with, counted, well-formed, known, roomy, light, unless, admit, then, checked-to, checked, counts-of}
-use Rattle.records.specs.Verdict.{Malformed, Beyond, Undeclared, Over, Heavy, reasons, reasons-at, Admitted, Cut, Refused, Accepted, Verdict}
-use Rattle.records.specs.CheckLaws.{Passed, admit-ok, before, counts-are}
+use Rattle.records.specs.Check.{tokens-with, counted, well-formed, known, roomy, light, unless, admit, then, checked-to, checked}
+use Rattle.records.specs.Verdict.{Malformed, Beyond, Undeclared, Over, Heavy, reasons, reasons-at, Admitted, Verdict}
+use Rattle.records.specs.CheckLaws.{Passed, before, counts-are}
 
 -- ## Each test decides its reason
 

@@ -4,9 +4,9 @@ use native.Mathlib.Numerals.{add-one}
 use native.Mathlib.Omega.{arith}
 use mathlib.Core.Path.{_≡_, refl, sym, ap, ap₂, _∙_}
 use mathlib.Core.Bool.{true, cond}
-use mathlib.Core.List.{List, [], _∷_, _++_}
+use mathlib.Core.List.{List, _++_}
 use lib.Dec.{leb}
-use lib.ListN.{length, take, drop, replicate, length-append}
+use lib.ListN.{length, take, drop, replicate, length-append, length-take, length-drop}
 use borrow.Rule.Slice.PartMut.{putMid}
 use Rattle.std.specs.declared.result.Result.the-variants.{Ok, Err}
 use Rattle.std.proofs.shelf.Lists.{length-replicate, take-at, drop-at, take-all, drop-drop, drop-replicate}
@@ -19,6 +19,7 @@ use Rattle.net.specs.Limits.{Lawful}
 use Rattle.records.specs.Layout.{record-size, no-target}
 use Rattle.records.specs.File.{net-of}
 use Rattle.records.specs.Write.{spread, filled, record-of, written, records-of, bytes-of, file-of, over-front, write-answer, write-after}
+use Rattle.records.proofs.Spreads.{length-filled}
 use Rattle.records.proofs.Trips.{length-record-of, length-written, net-written}
 
 -- a part written straight after what is written over the front of a list
@@ -31,21 +32,26 @@ put-over xs ys old a k at size =
     ∙ ap₂ (λ front end. (front ++ take k ys) ++ end) (take-at xs rest a at) back
     ∙ ap (λ mid. (xs ++ mid) ++ drop (length (xs ++ ys)) old) (take-all k ys (omega arith))
 
-pub filled-over : (width : ℕ) (ts : List ℕ) → filled width ts ≡ over-front ts (replicate width no-target)
+filled-over : (width : ℕ) (ts : List ℕ) → filled width ts ≡ over-front ts (replicate width no-target)
 filled-over width ts = ap (λ r. ts ++ r) (sym (drop-replicate {X = ℕ} (length ts) width no-target))
 
--- the targets of one place more
-pub filled-more : (width : ℕ) (t : Transition) (p used count k : ℕ) (found last : List ℕ) →
-    found ≡ filled width (spread t p) → used ≡ length (spread t p) → count ≡ tokens-on t p → k ≡ count → last ≡ replicate count p →
-    (putMid used k found last ≡ filled width (spread t (p + 1))) × (used + count ≡ length (spread t (p + 1)))
-filled-more width t p used count k found last found-is used-is count-is k-is last-is =
+-- the targets of one place more, filled into the part that starts behind those of the places before
+pub filled-more : (width : ℕ) (t : Transition) (p used count : ℕ) (found last : List ℕ) →
+    found ≡ filled width (spread t p) → used ≡ length (spread t p) → count ≡ tokens-on t p → used + count ≤ width →
+    last ≡ replicate (length (take ((used + count) - used) (drop used found))) p →
+    (putMid used ((used + count) - used) found last ≡ filled width (spread t (p + 1))) × (used + count ≡ length (spread t (p + 1)))
+filled-more width t p used count found last found-is used-is count-is room last-is =
     let ts = spread t p in
+    let k = (used + count) - used in
     let none = replicate {A = ℕ} width no-target in
+    let wide : length found ≡ width = ap length found-is ∙ length-filled width ts (omega arith) in
+    let size : length (take k (drop used found)) ≡ count = omega (arith, length-take k (drop used found), length-drop used found) in
+    let last-all : last ≡ replicate count p = last-is ∙ ap (λ n. replicate n p) size in
     let more : spread t (p + 1) ≡ ts ++ replicate count p = ap (spread t) (add-one p) ∙ ap (λ c. ts ++ replicate c p) (sym count-is) in
-    let long : length last ≡ k = ap length last-is ∙ length-replicate count p ∙ sym k-is in (
+    let long : length last ≡ k = ap length last-all ∙ length-replicate count p ∙ omega arith in (
       ap (λ f. putMid used k f last) (found-is ∙ filled-over width ts)
           ∙ put-over ts last none used k (sym used-is) long
-          ∙ ap (λ zs. over-front (ts ++ zs) none) last-is
+          ∙ ap (λ zs. over-front (ts ++ zs) none) last-all
           ∙ sym (filled-over width (ts ++ replicate count p))
           ∙ ap (filled width) (sym more),
       omega (arith, ap length more, length-append ts (replicate count p), length-replicate count p),

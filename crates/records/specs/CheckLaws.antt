@@ -5,7 +5,7 @@ use native.Mathlib.Numerals.{add-one}
 use native.Mathlib.Omega.{arith}
 use mathlib.Core.Path.{_≡_, refl, sym, ap, subst, _∙_}
 use mathlib.Core.Logic.{⊎-elim}
-use mathlib.Core.Bool.{Bool, true, false, cond, _&&_}
+use mathlib.Core.Bool.{Bool, true, false, cond}
 use mathlib.Core.List.{List}
 use lib.Dec.{eqb, leb, ltb}
 use lib.ListN.{length, length-take, length-drop}
@@ -13,14 +13,13 @@ use Rattle.std.proofs.shelf.Tests.{and-parts, ltb-true, leb-true, cases-lt}
 use Rattle.std.specs.declared.result.Result.{Result}
 use Rattle.std.specs.declared.result.Result.the-variants.{Ok, Err}
 use Rattle.net.specs.declared.refusal.Refusal.{Refusal}
-use Rattle.net.specs.declared.refusal.Refusal.the-variants.{PartialRecord, MalformedRecord, UndeclaredPlace, OverLimit, TooManyTokens}
+use Rattle.net.specs.declared.refusal.Refusal.the-variants.{MalformedRecord, UndeclaredPlace, OverLimit, TooManyTokens}
 use Rattle.net.specs.declared.refusal.Fault.{Fault}
-use Rattle.net.specs.Refusals.{at-spot}
 use Rattle.net.specs.Limits.{most-places, most-transitions, most-tokens}
 use Rattle.records.specs.declared.counts.Counts.{Counts}
-use Rattle.records.specs.Layout.{record-size, most-records, record-count, record-at}
-use Rattle.records.specs.Entry.{Entry, declares, moves, holds, broken, below, reading}
-use Rattle.records.specs.Check.{nothing, tokens-with, counted, well-formed, known, roomy, light, unless, admit, then, checked-to, checked, counts-of}
+use Rattle.records.specs.Layout.{record-size, most-records, record-at}
+use Rattle.records.specs.Entry.{Entry, declares, moves, holds, broken, reading}
+use Rattle.records.specs.Check.{nothing, counted, well-formed, known, roomy, light, unless, admit, then, checked-to, counts-of}
 
 -- ## One record
 
@@ -168,9 +167,9 @@ module _ (b : List ℕ) where
       let same : i + (n - i) ≡ n = omega arith in
       subst (λ m. checked-to b m ≡ Err f) same (stays-by i (n - i) f h)
 
-  -- one record more, as a loop counts
-  pub checked-to-more : (k : ℕ) (c : Counts) → checked-to b k ≡ Ok c → checked-to b (k + 1) ≡ admit (reading (record-at b k)) k c
-  checked-to-more k c h = rw (add-one, h) refl
+  -- one record more, as a loop counts and reads it
+  pub checked-to-more : (k : ℕ) (c : Counts) (r : List ℕ) (result : Result Counts Fault) → checked-to b k ≡ Ok c → r ≡ record-at b k → result ≡ admit (reading r) k c → checked-to b (k + 1) ≡ result
+  checked-to-more k c r result h read is = rw (add-one, h) (sym (is ∙ ap (λ x. admit (reading x) k c) read))
 
   pub length-record : (k : ℕ) → record-size * k + record-size ≤ length b → length (record-at b k) ≡ record-size
   length-record k h = simp (length-take, length-drop) (omega arith)

@@ -5,7 +5,7 @@ use mathlib.Core.List.{List, [], _∷_}
 use lib.Dec.{eqb, leb, ltb}
 use lib.ListN.{take, drop}
 use Rattle.net.specs.Limits.{most-label}
-use Rattle.records.specs.Layout.{at, head-size, record-targets, no-target}
+use Rattle.records.specs.Layout.{at, place-kind, transition-kind, tokens-kind, head-size, record-targets, no-target}
 
 pub data Entry : Type 0 where
   -- a place is declared: its number
@@ -46,42 +46,41 @@ padded k ts = rising 0 (take k ts) && blank (drop k ts)
 
 -- ## The kinds
 
--- 01: a place, then zeros
+-- a place record: its number, then zeros
 abbrev pub place-form : List ℕ → Bool
 place-form r = eqb (at r 2) 0 && eqb (at r 3) 0 && eqb (at r 4) 0 && eqb (at r 5) 0 && eqb (at r 6) 0 && eqb (at r 7) 0
 
 abbrev pub place-reading : List ℕ → Entry
 place-reading r = cond (place-form r) (declares (at r 1)) broken
 
--- 02: a place, a label, a total, then the targets
-abbrev pub head-form : List ℕ → Bool
-head-form r = leb (at r 2) most-label && leb (at r 3) record-targets
+-- a transition record: a place, a label, a total, then the target bytes
+abbrev pub transition-form : ℕ → ℕ → List ℕ → Bool
+transition-form label total ts = leb label most-label && leb total record-targets && padded total ts
 
--- a transition with a total and its target bytes
-abbrev pub with-targets : ℕ → ℕ → ℕ → List ℕ → Entry
-with-targets place label total ts = cond (padded total ts) (moves place label (take total ts)) broken
+abbrev pub transition-by : ℕ → ℕ → ℕ → List ℕ → Entry
+transition-by place label total ts = cond (transition-form label total ts) (moves place label (take total ts)) broken
 
 abbrev pub transition-reading : List ℕ → Entry
-transition-reading r = cond (head-form r) (with-targets (at r 1) (at r 2) (at r 3) (drop head-size r)) broken
+transition-reading r = transition-by (at r 1) (at r 2) (at r 3) (drop head-size r)
 
 -- the targets of a transition record
 abbrev pub targets-of : List ℕ → List ℕ
 targets-of r = take (at r 3) (drop head-size r)
 
--- 03: a side, a place, a zero, a count in two bytes, then zeros
-abbrev pub tokens-form : List ℕ → Bool
-tokens-form r = leb (at r 1) 1 && eqb (at r 3) 0 && eqb (at r 6) 0 && eqb (at r 7) 0
-
 -- a number of two bytes, high byte first
 abbrev pub two-bytes : ℕ → ℕ → ℕ
 two-bytes high low = high * 256 + low
+
+-- a token record: a side, a place, a zero, a count in two bytes, then zeros
+abbrev pub tokens-form : List ℕ → Bool
+tokens-form r = leb (at r 1) 1 && eqb (at r 3) 0 && eqb (at r 6) 0 && eqb (at r 7) 0
 
 abbrev pub tokens-reading : List ℕ → Entry
 tokens-reading r = cond (tokens-form r) (holds (at r 1) (at r 2) (two-bytes (at r 4) (at r 5))) broken
 
 abbrev pub reading : List ℕ → Entry
 reading r =
-    cond (eqb (at r 0) 1) (place-reading r)
-    (cond (eqb (at r 0) 2) (transition-reading r)
-    (cond (eqb (at r 0) 3) (tokens-reading r)
+    cond (eqb (at r 0) place-kind) (place-reading r)
+    (cond (eqb (at r 0) transition-kind) (transition-reading r)
+    (cond (eqb (at r 0) tokens-kind) (tokens-reading r)
     broken))

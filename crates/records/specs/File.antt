@@ -35,6 +35,10 @@ abbrev pub transition-records : List ℕ → ℕ → List ℕ
 transition-records bytes zero = []
 transition-records bytes (suc k) = cond (is-transition (reading (record-at bytes k))) (transition-records bytes k ++ k ∷ []) (transition-records bytes k)
 
+-- those of the whole file: none where the check refuses it
+abbrev pub picked : List ℕ → List ℕ
+picked bytes = cond (sound bytes) (transition-records bytes (record-count bytes)) []
+
 -- how many places the records declare
 abbrev pub declared-places : List ℕ → ℕ
 declared-places bytes = counts-of bytes (record-count bytes) .places

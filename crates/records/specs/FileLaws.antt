@@ -1,15 +1,13 @@
 -- That the net of a file keeps the limits, and its answers as the code gives them.
-use Prim.Native.Nat.{ℕ, zero, suc, _+_, _-_, _*_, _/_, _%_, _≤_, _<_}
-use native.Mathlib.Numerals.{add-one}
+use Prim.Native.Nat.{ℕ, zero, suc, _+_, _-_, _*_, _%_, _≤_, _<_}
 use native.Mathlib.Omega.{arith}
 use mathlib.Core.Path.{_≡_, refl, sym, ap, subst, _∙_}
-use mathlib.Core.Logic.{_⊎_, inl, inr, ⊎-elim}
-use mathlib.Core.Bool.{Bool, true, false, cond, _&&_}
+use mathlib.Core.Logic.{_⊎_, ⊎-elim}
+use mathlib.Core.Bool.{Bool, true, false, cond}
 use mathlib.Core.List.{List, [], _∷_, _++_, map}
 use lib.Dec.{eqb, ltb}
-use lib.ListN.{length, getD, take, drop, length-append, length-take, length-drop}
+use lib.ListN.{length, getD, take, length-append, length-take, length-drop}
 use lib.Seq.{getD-take}
-use Rattle.std.specs.Iters.{counting}
 use Rattle.std.specs.Results.{isOk}
 use Rattle.std.specs.declared.result.Result.{Result}
 use Rattle.std.specs.declared.result.Result.the-variants.{Ok, Err}
@@ -19,15 +17,15 @@ use Rattle.std.proofs.shelf.Tests.{false≢true, and-parts, ltb-true, cases-lt}
 use Rattle.net.specs.declared.refusal.Refusal.the-variants.{PartialRecord}
 use Rattle.net.specs.declared.refusal.Fault.{Fault}
 use Rattle.net.specs.Refusals.{at-spot}
-use Rattle.net.specs.Meaning.{Meaning, Transition, transition, idle, count-of, tokens-on, total-of, empty}
-use Rattle.net.specs.Limits.{Lawful, Within, most-places, most-transitions, most-label, most-total, empty-lawful}
+use Rattle.net.specs.Meaning.{Transition, transition, idle, count-of, tokens-on, total-of, empty}
+use Rattle.net.specs.Limits.{Lawful, Within, most-places, most-transitions}
 use Rattle.records.specs.declared.counts.Counts.{Counts}
-use Rattle.records.specs.Layout.{record-size, head-size, record-targets, most-records, record-count, record-at, at}
+use Rattle.records.specs.Layout.{record-size, record-targets, record-count, record-at, at}
 use Rattle.records.specs.Entry.{Entry, declares, moves, holds, broken, is-transition, below, targets-of, reading}
-use Rattle.records.specs.Check.{counted, well-formed, known, checked-to, checked, counts-of}
+use Rattle.records.specs.Check.{counted, known, checked-to, checked, counts-of}
 use Rattle.records.specs.EntryLaws.{Moving, moving}
-use Rattle.records.specs.CheckLaws.{err-not-ok, Few, Before, before, counts-are, few-to, few-records, places-grow, length-record}
-use Rattle.records.specs.File.{sound, tokens-to, transition-of, transition-records, declared-places, declared-net, net-of, admitted-records}
+use Rattle.records.specs.CheckLaws.{err-not-ok, Few, Before, before, counts-are, few-to, places-grow, length-record}
+use Rattle.records.specs.File.{sound, tokens-to, transition-of, transition-records, declared-places, declared-net, net-of, admitted-records, picked}
 use Rattle.records.specs.TargetLaws.{below-more, sum-tokens}
 
 -- ## Files that the check admits
@@ -120,10 +118,6 @@ each-placed b (suc k) c h i l = let p = before b k c h in go p (each-placed b k 
     go p all false e = λ i l. placed-more _ (p .counts .places) (c .places) (grown p) (all i l)
 
 -- ## The net
-
--- the transition records of a file, none where the check refuses it
-abbrev pub picked : List ℕ → List ℕ
-picked b = cond (sound b) (transition-records b (record-count b)) []
 
 -- record k as a transition of the net
 abbrev transition-at : List ℕ → ℕ → Transition

@@ -6,6 +6,16 @@ use lib.ListN.{length, getD, take, drop}
 abbrev pub record-size : ℕ
 record-size = 8
 
+-- byte 0 of a record is its kind
+abbrev pub place-kind : ℕ
+place-kind = 1
+
+abbrev pub transition-kind : ℕ
+transition-kind = 2
+
+abbrev pub tokens-kind : ℕ
+tokens-kind = 3
+
 -- the bytes of a transition record before its targets: kind, place, label, total
 abbrev pub head-size : ℕ
 head-size = 4

@@ -10,7 +10,7 @@ use Rattle.net.specs.declared.refusal.Refusal.the-variants.{ShortList}
 use Rattle.net.specs.declared.refusal.Fault.{Fault}
 use Rattle.net.specs.Refusals.{plain}
 use Rattle.net.specs.Meaning.{Meaning, Transition, transition, count-of, tokens-on, total-of}
-use Rattle.records.specs.Layout.{record-size, record-targets, no-target}
+use Rattle.records.specs.Layout.{record-size, place-kind, transition-kind, record-targets, no-target}
 
 -- the targets of a transition among the first n places, in rising order
 abbrev pub spread : Transition → ℕ → List ℕ
@@ -22,10 +22,10 @@ abbrev pub filled : ℕ → List ℕ → List ℕ
 filled width ts = ts ++ replicate (width - length ts) no-target
 
 abbrev pub place-record : ℕ → List ℕ
-place-record p = 1 ∷ p ∷ replicate {A = ℕ} (record-size - 2) 0
+place-record p = place-kind ∷ p ∷ replicate {A = ℕ} (record-size - 2) 0
 
 abbrev pub transition-record : ℕ → Transition → List ℕ
-transition-record n t = 2 ∷ t .place ∷ t .label ∷ total-of t ∷ filled record-targets (spread t n)
+transition-record n t = transition-kind ∷ t .place ∷ t .label ∷ total-of t ∷ filled record-targets (spread t n)
 
 -- record k of a net's file
 abbrev pub record-of : Meaning → ℕ → List ℕ

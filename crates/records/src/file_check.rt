@@ -5,15 +5,18 @@ ghost use lib.ListN.{length};
 ghost use Rattle.std.specs.Results.{Cases};
 ghost use Rattle.net.specs.Limits.{most-tokens};
 ghost use Rattle.net.specs.Refusals.{Rising};
-ghost use Rattle.records.specs.Layout.{record-size};
-ghost use Rattle.records.specs.Entry.{declares, holds, with-targets, reading};
+ghost use Rattle.records.specs.Layout.{record-size, record-targets};
+ghost use Rattle.records.specs.Entry.{declares, holds, transition-by, reading};
 ghost use Rattle.records.specs.Check.{admit as admitted, checked};
 ghost use Rattle.records.specs.Crews.{Measures};
 ghost use Rattle.records.specs.Verdict.{Verdict, reasons-at};
 use crate::counts::Counts;
 use crate::layout::MOST_RECORDS;
+use crate::layout::PLACE_KIND;
 use crate::layout::RECORD_SIZE;
 use crate::layout::RECORD_TARGETS;
+use crate::layout::TOKENS_KIND;
+use crate::layout::TRANSITION_KIND;
 use crate::record::record_at;
 use crate::record::two_bytes;
 use crate::targets::declared;
@@ -41,7 +44,7 @@ fn admit_place(number: usize, spot: usize, seen: Counts) -> Result<Counts, Fault
     })
 }
 
-// A transition record with its target bytes: its place and its targets are declared before it.
+// A transition record: its label and its total are small, its targets rise with nothing behind them, and its places are declared before it.
 fn admit_transition(
     place: usize,
     label: u8,
@@ -50,10 +53,10 @@ fn admit_transition(
     spot: usize,
     seen: Counts,
 ) -> Result<Counts, Fault>
-    requires { ⌜ total ≤ length (now targets) ⌝ }
-    ensures { λ r. ⌜ r ≡ admitted (with-targets place label total (now (targets .entry))) spot seen ⌝ }
+    requires { ⌜ length (now targets) ≡ record-targets ⌝ }
+    ensures { λ r. ⌜ r ≡ admitted (transition-by place label total (now (targets .entry))) spot seen ⌝ }
 {
-    if !well_padded(total, targets) {
+    if label > MOST_LABEL || total > RECORD_TARGETS || !well_padded(total, targets) {
         return Err(Fault::at(Refusal::MalformedRecord, spot));
     }
     if place >= seen.places || !declared(&targets[..total], seen.places) {
@@ -105,14 +108,8 @@ fn admit(bytes: &[u8], spot: usize, seen: Counts) -> Result<Counts, Fault>
     ensures { λ r. ⌜ r ≡ admitted (reading (now (bytes .entry))) spot seen ⌝ }
 {
     match bytes {
-        [1, number, 0, 0, 0, 0, 0, 0] => admit_place(*number as usize, spot, seen),
-        [
-            2,
-            place,
-            label @ 0..=MOST_LABEL,
-            total @ 0..=RECORD_TARGETS,
-            targets @ ..,
-        ] => {
+        [PLACE_KIND, number, 0, 0, 0, 0, 0, 0] => admit_place(*number as usize, spot, seen),
+        [TRANSITION_KIND, place, label, total, targets @ ..] => {
             admit_transition(
                 *place as usize,
                 *label,
@@ -122,7 +119,7 @@ fn admit(bytes: &[u8], spot: usize, seen: Counts) -> Result<Counts, Fault>
                 seen,
             )
         }
-        [3, side @ 0..=1, place, 0, high, low, 0, 0] => {
+        [TOKENS_KIND, side @ 0..=1, place, 0, high, low, 0, 0] => {
             admit_tokens(*side, *place as usize, two_bytes(*high, *low), spot, seen)
         }
         _ => Err(Fault {

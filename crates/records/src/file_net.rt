@@ -1,14 +1,15 @@
 // The net of a record file, read from the caller's bytes.
 ghost use Prim.Native.Nat.{ℕ, _<_, _≤_};
 ghost use mathlib.Core.Path.{_≡_};
-ghost use mathlib.Core.Bool.{true, false};
+ghost use mathlib.Core.Bool.{false};
 ghost use lib.ListN.{take};
 ghost use Rattle.std.specs.declared.result.Result.the-variants.{Ok};
 ghost use Rattle.net.specs.Limits.{most-transitions};
+ghost use Rattle.net.specs.Lists.{zeros};
 ghost use Rattle.records.specs.Check.{checked};
-ghost use Rattle.records.specs.File.{sound, admitted-records, net-of};
-ghost use Rattle.records.specs.Crews.{token-record, Put};
-ghost use Rattle.records.specs.FileLaws.{picked, net-lawful, Tells};
+ghost use Rattle.records.specs.File.{sound, admitted-records, picked, net-of};
+ghost use Rattle.records.specs.Crews.{crew-after, crew-of, token-record, Put};
+ghost use Rattle.records.specs.FileLaws.{net-lawful, Tells};
 use crate::counts::Counts;
 use crate::file_check::check;
 use crate::index::index_of;
@@ -25,8 +26,10 @@ use net::Net;
 #[derive(Clone, Copy)]
 pub struct FileNet<'a> {
     bytes: &'a [u8],
+    // how many records there are to go through
     size: usize,
     places: usize,
+    // how many transitions there are, and the numbers of their records
     count: usize,
     starts: [u16; MOST_TRANSITIONS],
     ghost whole: { size ≡ admitted-records (bytes .now) },
@@ -47,8 +50,11 @@ impl<'a> FileNet<'a> {
     }
 
     // How many records there are to go through: all, or none where the check refuses the bytes.
+    // The crews are empty before the first, and those of the file after the last.
     pub fn records(&self) -> usize
-        ensures { λ r. ⌜ r ≡ admitted-records (now (self .entry) .bytes .now) ⌝ }
+        ensures count { λ r. ⌜ r ≡ admitted-records (now (self .entry) .bytes .now) ⌝ }
+        ensures start { λ _. ⌜ ((side : ℕ) → crew-after (now (self .entry) .bytes .now) side 0 ≡ zeros (net-of (now (self .entry) .bytes .now) .places)) ⌝ }
+        ensures finish { λ r. ⌜ ((side : ℕ) → crew-after (now (self .entry) .bytes .now) side r ≡ crew-of (now (self .entry) .bytes .now) side) ⌝ }
     {
         self.size
     }
@@ -65,6 +71,7 @@ impl<'a> FileNet<'a> {
         tokens_in(record_at(self.bytes, k))
     }
 
+    // The empty net of bytes that the check refuses.
     fn refused(bytes: &'a [u8]) -> FileNet<'a>
         requires { ⌜ sound (now bytes) ≡ false ⌝ }
         ensures { λ r. ⌜ r .bytes .now ≡ now (bytes .entry) ⌝ }
@@ -78,6 +85,7 @@ impl<'a> FileNet<'a> {
         }
     }
 
+    // The net of bytes that it admits.
     fn admitted(bytes: &'a [u8], seen: Counts) -> FileNet<'a>
         requires { ⌜ Ok seen ≡ checked (now bytes) ⌝ }
         ensures { λ r. ⌜ r .bytes .now ≡ now (bytes .entry) ⌝ }

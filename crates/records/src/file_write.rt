@@ -1,5 +1,5 @@
 // A net written as a record file.
-ghost use Prim.Native.Nat.{ℕ, _<_, _≤_};
+ghost use Prim.Native.Nat.{_<_, _≤_};
 ghost use mathlib.Core.Path.{_≡_};
 ghost use lib.ListN.{length, take};
 ghost use Rattle.std.specs.Results.{Cases};
@@ -8,7 +8,9 @@ ghost use Rattle.records.specs.File.{net-of};
 ghost use Rattle.records.specs.Write.{spread, filled, place-record, transition-record, record-of, records-of, write-answer, write-after};
 use crate::layout::HEAD_SIZE;
 use crate::layout::NO_TARGET;
+use crate::layout::PLACE_KIND;
 use crate::layout::RECORD_SIZE;
+use crate::layout::TRANSITION_KIND;
 use net::Fault;
 use net::Net;
 use net::Refusal;
@@ -17,7 +19,7 @@ use net::Refusal;
 fn place_record(number: u8) -> [u8; RECORD_SIZE]
     ensures { λ r. ⌜ r ≡ place-record number ⌝ }
 {
-    [1, number, 0, 0, 0, 0, 0, 0]
+    [PLACE_KIND, number, 0, 0, 0, 0, 0, 0]
 }
 
 // Writes the targets of transition t in rising order, and no targets behind them.
@@ -40,7 +42,7 @@ fn transition_record<N: Net>(net: &N, t: usize) -> [u8; RECORD_SIZE]
     ensures { λ r. ⌜ r ≡ transition-record (N·Net .meaning (now (net .entry)) .places) (transition (N·Net .meaning (now (net .entry))) t) ⌝ }
 {
     let mut bytes = [0u8; RECORD_SIZE];
-    bytes[0] = 2;
+    bytes[0] = TRANSITION_KIND;
     bytes[1] = net.place(t) as u8;
     bytes[2] = net.label(t);
     bytes[3] = net.total(t);

@@ -5,6 +5,7 @@ ghost use lib.ListN.{length, take};
 ghost use Rattle.records.specs.Layout.{record-count};
 ghost use Rattle.records.specs.File.{sound, transition-records};
 use crate::layout::RECORD_SIZE;
+use crate::layout::TRANSITION_KIND;
 use crate::record::record_at;
 use net::MOST_TRANSITIONS;
 
@@ -16,7 +17,7 @@ pub(crate) fn index_of(bytes: &[u8]) -> [u16; MOST_TRANSITIONS]
     let mut count = 0;
     let mut starts = [0u16; MOST_TRANSITIONS];
     for k in 0..bytes.len() / RECORD_SIZE {
-        if record_at(bytes, k)[0] == 2 {
+        if record_at(bytes, k)[0] == TRANSITION_KIND {
             starts[count] = k as u16;
             count += 1;
         }

@@ -2,7 +2,7 @@
 ghost use Prim.Native.Nat.{_≤_, _<_};
 ghost use mathlib.Core.Path.{_≡_};
 ghost use lib.ListN.{length};
-ghost use Rattle.records.specs.Entry.{rising, blank as unusedAll, padded, below};
+ghost use Rattle.records.specs.Entry.{rising, blank as allBlank, padded, below};
 ghost use Rattle.records.specs.File.{tokens-to};
 use crate::layout::NO_TARGET;
 
@@ -22,7 +22,7 @@ fn rises(targets: &[u8]) -> bool
 
 // Whether no byte is a target.
 fn blank(rest: &[u8]) -> bool
-    ensures { λ r. ⌜ r ≡ unusedAll (now (rest .entry)) ⌝ }
+    ensures { λ r. ⌜ r ≡ allBlank (now (rest .entry)) ⌝ }
 {
     for t in rest {
         if *t != NO_TARGET {

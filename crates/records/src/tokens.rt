@@ -4,6 +4,7 @@ ghost use lib.ListN.{length};
 ghost use Rattle.records.specs.Layout.{record-size};
 ghost use Rattle.records.specs.Entry.{reading};
 ghost use Rattle.records.specs.Tokens.{tokens-said};
+use crate::layout::TOKENS_KIND;
 use crate::record::two_bytes;
 
 // So many tokens on a place of a side, 0 for the left crew and 1 for the right.
@@ -20,7 +21,7 @@ pub(crate) fn tokens_in(bytes: &[u8]) -> Option<Tokens>
     ensures { λ r. ⌜ r ≡ tokens-said (reading (now (bytes .entry))) ⌝ }
 {
     match bytes {
-        [3, side @ 0..=1, place, 0, high, low, 0, 0] => {
+        [TOKENS_KIND, side @ 0..=1, place, 0, high, low, 0, 0] => {
             Some(Tokens {
                 side: *side as usize,
                 place: *place as usize,

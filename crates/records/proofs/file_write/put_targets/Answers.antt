@@ -1,11 +1,9 @@
 use borrow.Author.Needs.{needs}
 use native.Mathlib.Omega.{arith}
-use mathlib.Core.Path.{_≡_, ap, _∙_}
-use Prim.Native.Nat.{_+_, _-_, _≤_}
-use lib.ListN.{length, length-take, length-drop, take, drop, replicate}
+use Prim.Native.Nat.{_+_, _≤_}
+use lib.ListN.{length}
 use Rattle.net.specs.Meaning.{transition}
-use Rattle.records.specs.Write.{spread}
-use Rattle.records.proofs.Spreads.{loop-room, length-filled}
+use Rattle.records.proofs.Spreads.{loop-room}
 use Rattle.records.proofs.Writes.{filled-more}
 use Rattle.records.proofs.file_write.put_targets.Needs as need
 
@@ -19,15 +17,11 @@ part-fill-end g c =
 pub loop-p-again : need.loop-p-again
 loop-p-again g c =
     let m = g .N·Net .meaning (c .args .net .now) in
-    let t = transition m (c .args .t) in
     let used = c .loop-p .used in
     let count = c .tokens-count .result in
-    let found = c .loop-p .targets in
     let width = length (c .fill .last .self) in
-    let long : width ≡ length (c .args .targets .now) = c .fill .ensures .len in
+    let long : length (c .args .targets .now) ≤ width = omega (arith, c .fill .ensures .len) in
     let room : used + count ≤ length (c .args .targets .now) =
     loop-room m (g .N·Net .lawful (c .args .net .now)) (c .args .t) (c .loop-p .p) (c .places-p-end .result) used count (length (c .args .targets .now)) (c .pre .0) (c .pre .1) (c .places-p-end .ensures) (c .loop-p-test .taken) (c .loop-p .inv .1) (c .tokens-count .ensures) in
-    let wide : length found ≡ width = ap length (c .loop-p .inv .0) ∙ length-filled width (spread t (c .loop-p .p)) (omega (arith, c .loop-p .inv .1)) in
-    let size : length (take ((used + count) - used) (drop used found)) ≡ count = omega (arith, length-take ((used + count) - used) (drop used found), length-drop used found) in
-    filled-more width t (c .loop-p .p) used count ((used + count) - used) found (c .fill-in-loop-p .last .self) (c .loop-p .inv .0) (c .loop-p .inv .1) (c .tokens-count .ensures) (omega arith)
-    (c .fill-in-loop-p .ensures .after (λ y e. e) ∙ ap (λ n. replicate n (c .loop-p .p)) size)
+    filled-more width (transition m (c .args .t)) (c .loop-p .p) used count (c .loop-p .targets) (c .fill-in-loop-p .last .self) (c .loop-p .inv .0) (c .loop-p .inv .1) (c .tokens-count .ensures) (omega arith)
+    (c .fill-in-loop-p .ensures .after (λ y e. e))

@@ -1,9 +1,8 @@
-use borrow.Author.Needs.{needs}
-use mathlib.Core.Path.{_≡_, sym, ap, ap₂, _∙_}
+use mathlib.Core.Path.{ap, _∙_}
 use mathlib.Core.Bool.{_&&_}
-use lib.ListN.{take, drop}
+use lib.ListN.{drop}
 use Rattle.std.proofs.shelf.Lists.{take-rest}
-use Rattle.records.specs.Entry.{rising, blank}
+use Rattle.records.specs.Entry.{blank}
 use Rattle.records.proofs.targets.well_padded.Needs as need
 
 pub returns-then-rises : need.returns-then-rises

@@ -1,5 +1,4 @@
-use borrow.Author.Needs.{needs}
-use Rattle.records.specs.FileLaws.{Kept, kept}
+use Rattle.records.specs.FileLaws.{kept}
 use Rattle.records.proofs.file_net.FileNet.admitted.Needs as need
 
 pub ghost-result : need.ghost-result

@@ -5,7 +5,6 @@ use Prim.Native.Nat.{_<_, _≤_}
 use Rattle.records.specs.Entry.{reading}
 use Rattle.records.specs.Tokens.{tokens-said}
 use Rattle.records.specs.File.{admitted-records}
-use Rattle.records.specs.Crews.{token-record}
 use Rattle.records.specs.Layout.{record-at}
 use Rattle.records.proofs.CrewLaws.{put-of, token-in, token-out}
 use Rattle.records.proofs.file_net.FileNet.token_record.Needs as need
