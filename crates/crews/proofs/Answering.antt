@@ -9,11 +9,13 @@ use lib.Dec.{eqb}
 use lib.ListN.{length, getD}
 use Rattle.std.specs.shelf.Lists.{sum}
 use Rattle.std.proofs.shelf.Tests.{cases-lt, and-parts, eqb-true, ltb-true}
+use Rattle.std.proofs.shelf.Ways.{same-from-decides, decides-eqb, decides-like}
 use Rattle.net.specs.Meaning.{Meaning, transition, count-of, total-of}
 use Rattle.net.specs.Limits.{Lawful}
 use Rattle.net.specs.Lists.{zeros}
 use Rattle.net.specs.Markings.{fired}
 use Rattle.net.proofs.Markings.{sum-more, sum-fired}
+use Rattle.team.specs.Below.{tally}
 use Rattle.team.specs.Relations.{Relation}
 use Rattle.team.specs.Closure.{Closure, none, more}
 use Rattle.team.specs.Markings.{Enabled, held, EvenBy}
@@ -142,6 +144,12 @@ even-in-class n cs xs ys even c = by-left (cases-lt 0 (in-class n cs xs c))
         by-right : (0 < in-class n cs ys c) ⊎ (in-class n cs ys c ≤ 0) → in-class n cs xs c ≡ in-class n cs ys c
         by-right (inl h) = at-holder ys h
         by-right (inr w) = omega (arith, z, w)
+
+-- tokens counted by the entry of their place are those of the class
+pub by-entry : (n : ℕ) (cs xs : List ℕ) (c k : ℕ) → k ≡ tally n (λ p. cond (eqb (getD cs p 0) c) (getD xs p 0) 0) → k ≡ in-class n cs xs c
+by-entry n cs xs c k e =
+    e ∙ tally-cong n (λ p. cond (eqb (getD cs p 0) c) (getD xs p 0) 0) (λ p. cond (eqb c (getD cs p 0)) (getD xs p 0) 0)
+    (λ p l. ap (λ b. cond b (getD xs p 0) 0) (same-from-decides (eqb (getD cs p 0) c) (eqb c (getD cs p 0)) (decides-eqb (getD cs p 0) c) (decides-like (eqb c (getD cs p 0)) sym sym (decides-eqb c (getD cs p 0)))))
 
 module _ (m : Meaning) (cs table : List ℕ) (t u : ℕ) where
   -- a transition that differs at some class does not fit

@@ -1,4 +1,3 @@
-pub mod Stub
 pub mod Crews
 pub mod Calls
 pub mod Tally

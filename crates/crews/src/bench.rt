@@ -10,9 +10,9 @@ ghost use Rattle.crews.specs.Calls.{unknown};
 ghost use Rattle.crews.specs.Shows.{Shows, Steps, ReadyOr, table-on, with-table, done-or, tokens-or};
 ghost use Rattle.crews.specs.declared.call.Call.the-variants.{Put, Take, Fire, Count};
 use crate::crew::Crew;
-use crate::stub::classes;
+use classing::ClassTable;
+use classing::Partition;
 use net::Fault;
-use net::MOST_PLACES;
 use net::Net;
 use net::Refusal;
 
@@ -102,12 +102,10 @@ impl<N: Net> Bench<N> {
     }
 
     // The class of each place.
-    pub(crate) fn class_table(&self) -> [u8; MOST_PLACES]
-        ensures { λ r. ⌜ ClassedBy (N·Net .meaning (now (self .entry) .net)) r ⌝ }
+    pub(crate) fn class_table(&self) -> ClassTable
+        ensures { λ r. ⌜ ClassedBy (N·Net .meaning (now (self .entry) .net)) (r .classes) ⌝ }
     {
-        let mut table = [0; MOST_PLACES];
-        let _ = classes(&self.net, &mut table);
-        table
+        Partition::of(&self.net).table
     }
 
     // Refuses a side or a place that there is not.

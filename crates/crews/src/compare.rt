@@ -21,10 +21,10 @@ impl<N: Net> Bench<N> {
         let table = self.class_table();
         let left = self.left.counts;
         let right = self.right.counts;
-        match difference(places, &table, &left, &right) {
+        match difference(places, &table.classes, &left, &right) {
             Some(d) => Ok(Verdict::Apart(d)),
             None => {
-                let used = pair(places, &table, &left, &right, list);
+                let used = pair(places, &table.classes, &left, &right, list);
                 Ok(Verdict::Alike { used })
             }
         }

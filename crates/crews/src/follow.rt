@@ -19,7 +19,7 @@ impl<N: Net> Bench<N> {
         let table = self.class_table();
         let left = self.left.counts;
         let right = self.right.counts;
-        if difference(self.net.places(), &table, &left, &right).is_some() {
+        if difference(self.net.places(), &table.classes, &left, &right).is_some() {
             return Err(Fault::plain(Refusal::CrewsApart));
         }
         let mut other = self.crew(1 - side);

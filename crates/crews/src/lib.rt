@@ -8,7 +8,6 @@ mod follow;
 mod pairing;
 mod runs;
 mod search;
-mod stub;
 mod swap;
 
 pub use bench::Bench;

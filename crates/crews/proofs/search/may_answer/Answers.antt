@@ -3,16 +3,6 @@ use native.Mathlib.Omega.{arith}
 use Prim.Native.Nat.{_<_}
 use Rattle.crews.proofs.search.may_answer.Needs as need
 
-pub index-classes-place : need.index-classes-place
-index-classes-place g c =
-    let law = g .N·Net .lawful (c .args .net .now) in
-    omega (arith, c .place .ensures, law .each (c .args .t) (c .pre .t-known) .place-known, law .few-places)
-
-pub index-classes-from : need.index-classes-from
-index-classes-from g c =
-    let law = g .N·Net .lawful (c .args .net .now) in
-    omega (arith, c .place-from .ensures, law .each (c .args .u) (c .pre .u-known) .place-known, law .few-places)
-
 pub offset-crew-from : need.offset-crew-from
 offset-crew-from g c =
     let law = g .N·Net .lawful (c .args .net .now) in

@@ -1,4 +1,0 @@
-use Rattle.crews.proofs.bench.Bench.class_table.Needs as need
-
-pub returns : need.returns
-returns g c = ?
