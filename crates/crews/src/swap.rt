@@ -1,4 +1,6 @@
 // What a comparison of two crews answers.
+ghost use mathlib.Core.Path.{_≡_};
+ghost use lib.ListN.{take};
 use net::MOST_PLACES;
 
 // A swap list has two entries at most for each place.
@@ -17,6 +19,22 @@ pub struct Swap {
 pub struct SwapList {
     pub entries: [Swap; MOST_SWAPS],
     pub used: usize,
+}
+
+impl SwapList {
+    // The entries of the list.
+    pub fn swaps(&self) -> &[Swap]
+        ensures { λ r. ⌜ now r ≡ take (now (self .entry) .used) (now (self .entry) .entries) ⌝ }
+    {
+        front(&self.entries, self.used)
+    }
+}
+
+// The first entries, or all where there are not so many.
+fn front(entries: &[Swap; MOST_SWAPS], count: usize) -> &[Swap]
+    ensures { λ r. ⌜ now r ≡ take count (now (entries .entry)) ⌝ }
+{
+    &entries[..count.min(MOST_SWAPS)]
 }
 
 // A class that holds more tokens of one crew than of the other, with both counts.

@@ -1,5 +1,6 @@
 // Reading a script: one call a line.
 use crews::Call;
+use crews::MOST_SWAPS;
 use std::str::SplitWhitespace;
 
 // What a line of a script says.
@@ -42,6 +43,11 @@ fn read_call(name: &str, words: &mut SplitWhitespace) -> Option<Call> {
             side: next_number(words)?,
             transition: next_number(words)?,
         },
+        "follow" => Call::Follow {
+            side: next_number(words)?,
+            transition: next_number(words)?,
+        },
+        "compare" => return read_compare(words),
         "count" => Call::Count {
             side: next_number(words)?,
             place: next_number(words)?,
@@ -50,6 +56,18 @@ fn read_call(name: &str, words: &mut SplitWhitespace) -> Option<Call> {
     };
     match words.next() {
         None => Some(call),
+        Some(_) => None,
+    }
+}
+
+// A comparison, with the room of its list if one is named.
+fn read_compare(words: &mut SplitWhitespace) -> Option<Call> {
+    let Some(word) = words.next() else {
+        return Some(Call::Compare { room: MOST_SWAPS });
+    };
+    let room = number(word)?;
+    match words.next() {
+        None => Some(Call::Compare { room }),
         Some(_) => None,
     }
 }
