@@ -1,7 +1,7 @@
 -- The stages are equivalences, contain every team bisimulation, and one that is stable is such a relation.
 use Prim.Native.Nat.{ℕ, zero, suc, _<_}
 use mathlib.Core.Path.{_≡_, refl, sym, _∙_}
-use mathlib.Core.Bool.{true, not, _&&_}
+use mathlib.Core.Bool.{true, _&&_}
 use mathlib.Core.List.{List}
 use lib.Dec.{eqb, ltb}
 use Rattle.std.specs.Orderings.{Decides}
