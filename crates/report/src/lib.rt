@@ -1,0 +1,3 @@
+// The report of a record file, as text in the caller's bytes.
+mod lines;
+mod writing;
