@@ -3,6 +3,7 @@ ghost use Prim.Native.Nat.{_+_, _≤_};
 ghost use lib.ListN.{length};
 ghost use Rattle.report.specs.Text.{swap-line, swap-lines, alike-text, apart-text, spot-field, refused-text};
 ghost use Rattle.report.specs.Places.{Placed};
+use crate::writing::end_line;
 use crate::writing::put_field;
 use crate::writing::put_number;
 use crate::writing::put_text;
@@ -18,7 +19,7 @@ fn put_swap(out: &mut [u8], at: usize, swap: Swap) -> usize
     let at = put_number(out, at, swap.left as usize);
     let at = put_field(out, at, swap.right as usize);
     let at = put_field(out, at, swap.count as usize);
-    put_text(out, at, b"\n")
+    end_line(out, at)
 }
 
 // The lines of a swap list, from a position on.
@@ -51,7 +52,7 @@ pub(crate) fn put_apart(out: &mut [u8], by: Difference) -> usize
     let at = put_field(out, at, by.class);
     let at = put_field(out, at, by.left as usize);
     let at = put_field(out, at, by.right as usize);
-    put_text(out, at, b"\n")
+    end_line(out, at)
 }
 
 // A spot behind a blank, where there is one.
@@ -73,5 +74,5 @@ pub(crate) fn put_refused(out: &mut [u8], fault: Fault) -> usize
     let at = put_text(out, 0, b"REFUSED");
     let at = put_field(out, at, fault.refusal.number() as usize);
     let at = put_spot(out, at, fault.spot);
-    put_text(out, at, b"\n")
+    end_line(out, at)
 }

@@ -1,6 +1,7 @@
 // Text and numbers, written over the caller's bytes from a position on. Each function answers the position behind what it wrote.
 ghost use Prim.Native.Nat.{_+_, _<_, _≤_};
 ghost use mathlib.Core.List.{[], _∷_};
+ghost use lib.Chars.{codes};
 ghost use lib.ListN.{length};
 ghost use Rattle.std.specs.Written.{decimal};
 ghost use Rattle.report.specs.Text.{field};
@@ -42,4 +43,12 @@ pub(crate) fn put_field(out: &mut [u8], at: usize, n: usize) -> usize
 {
     let at = put_text(out, at, b" ");
     put_number(out, at, n)
+}
+
+// The end of a line.
+pub(crate) fn end_line(out: &mut [u8], at: usize) -> usize
+    requires { ⌜ at + 1 ≤ length (now out) ⌝ }
+    ensures { λ r. ⌜ Placed at (codes "\n") (now (out .entry)) (now (out .exit)) r ⌝ }
+{
+    put_text(out, at, b"\n")
 }

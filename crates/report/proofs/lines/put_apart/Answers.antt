@@ -15,8 +15,8 @@ put-field-at-requires-2 c κs = omega (arith, c .pre, length-apart-text (c .args
 pub put-field-at-requires-3 : need.put-field-at-requires-3
 put-field-at-requires-3 c κs = omega (arith, c .pre, length-apart-text (c .args .by), c .put-text-at .ensures .ends, c .put-field-at .ensures .ends, c .put-field-at-2 .ensures .ends)
 
-pub put-text-requires : need.put-text-requires
-put-text-requires c κs =
+pub end-line-requires : need.end-line-requires
+end-line-requires c κs =
     omega (arith, c .pre, length-apart-text (c .args .by), c .put-text-at .ensures .ends, c .put-field-at .ensures .ends, c .put-field-at-2 .ensures .ends, c .put-field-at-3 .ensures .ends)
 
 pub returns : need.returns
@@ -27,4 +27,4 @@ returns c =
     (placed-append (c .put-text-at .result) (field (d .class)) (field (d .left) ++ (field (d .right) ++ last)) (omega (arith, c .pre, length-apart-text d, c .put-text-at .ensures .ends)) (c .put-field-at .ensures)
     (placed-append (c .put-field-at .result) (field (d .left)) (field (d .right) ++ last) (omega (arith, c .pre, length-apart-text d, c .put-text-at .ensures .ends, c .put-field-at .ensures .ends)) (c .put-field-at-2 .ensures)
     (placed-append (c .put-field-at-2 .result) (field (d .right)) last (omega (arith, c .pre, length-apart-text d, c .put-text-at .ensures .ends, c .put-field-at .ensures .ends, c .put-field-at-2 .ensures .ends))
-    (c .put-field-at-3 .ensures) (c .put-text .ensures))))
+    (c .put-field-at-3 .ensures) (c .end-line .ensures))))

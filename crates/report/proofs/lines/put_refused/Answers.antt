@@ -16,8 +16,8 @@ pub put-spot-at-requires : need.put-spot-at-requires
 put-spot-at-requires c κs =
     omega (arith, c .pre, length-refused-text (c .args .fault), ap (λ n. length (field n)) (c .number .ensures), c .put-text-at .ensures .ends, c .put-field-at .ensures .ends)
 
-pub put-text-requires : need.put-text-requires
-put-text-requires c κs =
+pub end-line-requires : need.end-line-requires
+end-line-requires c κs =
     omega (arith, c .pre, length-refused-text (c .args .fault), ap (λ n. length (field n)) (c .number .ensures), c .put-text-at .ensures .ends, c .put-field-at .ensures .ends, c .put-spot-at .ensures .ends)
 
 pub returns : need.returns
@@ -29,4 +29,4 @@ returns c =
     placed-append 0 (codes "REFUSED") (number ++ (spot-field (f .spot) ++ last)) (omega arith) (c .put-text-at .ensures)
     (placed-append (c .put-text-at .result) number (spot-field (f .spot) ++ last) (omega (arith, c .pre, length-refused-text f, c .put-text-at .ensures .ends)) (placed-as (ap field (c .number .ensures)) (c .put-field-at .ensures))
     (placed-append (c .put-field-at .result) (spot-field (f .spot)) last (omega (arith, c .pre, length-refused-text f, long, c .put-text-at .ensures .ends, c .put-field-at .ensures .ends))
-    (c .put-spot-at .ensures) (c .put-text .ensures)))
+    (c .put-spot-at .ensures) (c .end-line .ensures)))

@@ -16,8 +16,8 @@ put-field-at-requires c κs = omega (arith, c .pre, length-swap-line (c .args .s
 pub put-field-at-requires-2 : need.put-field-at-requires-2
 put-field-at-requires-2 c κs = omega (arith, c .pre, length-swap-line (c .args .swap), c .put-number-at .ensures .ends, c .put-field-at .ensures .ends)
 
-pub put-text-requires : need.put-text-requires
-put-text-requires c κs = omega (arith, c .pre, length-swap-line (c .args .swap), c .put-number-at .ensures .ends, c .put-field-at .ensures .ends, c .put-field-at-2 .ensures .ends)
+pub end-line-requires : need.end-line-requires
+end-line-requires c κs = omega (arith, c .pre, length-swap-line (c .args .swap), c .put-number-at .ensures .ends, c .put-field-at .ensures .ends, c .put-field-at-2 .ensures .ends)
 
 pub returns : need.returns
 returns c =
@@ -25,4 +25,4 @@ returns c =
     let last = codes "\n" in
     placed-append (c .args .at) (decimal (s .left)) (field (s .right) ++ (field (s .count) ++ last)) (omega (arith, c .pre)) (c .put-number-at .ensures)
     (placed-append (c .put-number-at .result) (field (s .right)) (field (s .count) ++ last) (omega (arith, c .pre, length-swap-line s, c .put-number-at .ensures .ends)) (c .put-field-at .ensures)
-    (placed-append (c .put-field-at .result) (field (s .count)) last (omega (arith, c .pre, length-swap-line s, c .put-number-at .ensures .ends, c .put-field-at .ensures .ends)) (c .put-field-at-2 .ensures) (c .put-text .ensures)))
+    (placed-append (c .put-field-at .result) (field (s .count)) last (omega (arith, c .pre, length-swap-line s, c .put-number-at .ensures .ends, c .put-field-at .ensures .ends)) (c .put-field-at-2 .ensures) (c .end-line .ensures)))
