@@ -1,3 +1,4 @@
 pub mod Placing
 pub mod Lengths
 pub mod Fits
+pub mod Filling

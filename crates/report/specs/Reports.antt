@@ -7,12 +7,16 @@ use Rattle.std.specs.declared.result.Result.the-variants.{Err}
 use Rattle.net.specs.declared.refusal.Fault.{Fault}
 use Rattle.records.specs.Check.{checked}
 use Rattle.records.specs.File.{sound, net-of}
-use Rattle.records.specs.Crews.{crew-of}
+use Rattle.records.specs.Crews.{crew-after, crew-of}
 use Rattle.crews.specs.Crews.{Crews}
 use Rattle.crews.specs.Verdicts.{Alike, Apart}
 use Rattle.crews.specs.declared.swap.Swap.{Swap}
 use Rattle.crews.specs.declared.swap.Difference.{Difference}
 use Rattle.report.specs.Text.{alike-text, apart-text, refused-text}
+
+-- the two crews after the first k records of a file
+abbrev pub crews-after : List ℕ → ℕ → Crews
+crews-after bytes k = record { left = crew-after bytes 0 k; right = crew-after bytes 1 k }
 
 -- the two crews of a file
 abbrev pub crews-of : List ℕ → Crews
