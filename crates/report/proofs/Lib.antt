@@ -2,3 +2,4 @@ pub mod Placing
 pub mod Lengths
 pub mod Fits
 pub mod Filling
+pub mod OneText

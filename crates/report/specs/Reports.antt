@@ -27,3 +27,7 @@ pub data Reports (bytes : List ℕ) : List ℕ → Type 0 where
   refused : (f : Fault) → checked bytes ≡ Err f → Reports bytes (refused-text f)
   alike : (list : List Swap) → sound bytes ≡ true → Alike (net-of bytes) (crews-of bytes) list → Reports bytes (alike-text list)
   apart : (d : Difference) → sound bytes ≡ true → Apart (net-of bytes) (crews-of bytes) d → Reports bytes (apart-text d)
+
+-- a file has one report
+abbrev pub OneText : Type 0
+OneText = (bytes text other : List ℕ) → Reports bytes text → Reports bytes other → text ≡ other
