@@ -1,16 +1,14 @@
 -- The tokens of a file, put on a bench record by record.
-use Prim.Native.Nat.{ℕ, zero, suc, _+_, _≤_, _<_}
+use Prim.Native.Nat.{ℕ, zero, suc, _+_, _≤_}
 use native.Mathlib.Omega.{arith}
 use mathlib.Core.Path.{_≡_, refl, sym, ap, ap₂, subst, _∙_}
 use mathlib.Core.Bool.{cond}
-use mathlib.Core.Logic.{_⊎_, inl, inr}
-use mathlib.Core.List.{List, [], _∷_, _++_, map}
+use mathlib.Core.Logic.{inl, inr}
+use mathlib.Core.List.{List, [], _∷_, map}
 use lib.Dec.{eqb}
-use lib.ListN.{length, getD, set}
 use Rattle.std.specs.Iters.{counting}
 use Rattle.std.specs.shelf.Lists.{sum}
 use Rattle.std.specs.declared.option.Option.the-variants.{Some, None}
-use Rattle.std.specs.declared.result.Result.{Result}
 use Rattle.net.specs.Meaning.{Meaning}
 use Rattle.net.specs.Limits.{most-tokens}
 use Rattle.net.specs.Lists.{zeros}
@@ -18,8 +16,8 @@ use Rattle.net.specs.Markings.{more}
 use Rattle.net.specs.Refusals.{Row, First, Free}
 use Rattle.net.specs.declared.refusal.Fault.{Fault}
 use Rattle.records.specs.declared.tokens.Tokens.{Tokens}
-use Rattle.records.specs.File.{net-of, admitted-records}
-use Rattle.records.specs.Crews.{crew-after, with-tokens, Put as PutBy}
+use Rattle.records.specs.File.{net-of}
+use Rattle.records.specs.Crews.{crew-after, Put as PutBy}
 use Rattle.crews.specs.Crews.{Crews, on-side, with-side, nobody}
 use Rattle.crews.specs.Calls.{Meets}
 use Rattle.crews.specs.Tally.{Step, refused, put}

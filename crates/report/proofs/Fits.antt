@@ -1,13 +1,12 @@
 -- Every report fits into the bytes that the caller has to bring.
 use Prim.Native.Nat.{ℕ, zero, suc, _+_, _*_, _^_, _≤_, _<_}
 use native.Mathlib.Omega.{arith}
-use mathlib.Core.Path.{_≡_, refl, sym, ap, subst, _∙_}
+use mathlib.Core.Path.{sym, subst}
 use mathlib.Core.Bool.{Bool, true, false, cond}
 use mathlib.Core.Logic.{_⊎_, inl, inr}
 use mathlib.Core.List.{List, [], _∷_, _++_}
 use lib.Dec.{ltb}
 use lib.ListN.{length, getD}
-use Rattle.std.specs.Written.{decimal}
 use Rattle.std.specs.shelf.Lists.{sum}
 use Rattle.std.specs.declared.option.Option.{Option}
 use Rattle.std.specs.declared.option.Option.the-variants.{Some, None}
@@ -22,11 +21,10 @@ use Rattle.net.specs.declared.refusal.Refusal.{Refusal}
 use Rattle.net.specs.declared.refusal.Refusal.the-variants.{PartialRecord, MalformedRecord, UndeclaredPlace, OverLimit, Unfit, UnknownSide, OutOfRange, TooFewTokens, CrewsApart, TooManyTokens, ShortList, UnlawfulSheet, UnknownLine}
 use Rattle.net.specs.declared.refusal.Fault.{Fault}
 use Rattle.net.proofs.Markings.{getD-le-sum}
-use Rattle.team.specs.Below.{tally}
 use Rattle.team.specs.Pairings.{Cells}
 use Rattle.team.proofs.Sums.{tally-front}
 use Rattle.crews.specs.Crews.{Crews}
-use Rattle.crews.specs.Swaps.{swap-at, row-swaps, swaps, swap-list}
+use Rattle.crews.specs.Swaps.{swap-at, row-swaps, swaps}
 use Rattle.crews.specs.Verdicts.{Alike}
 use Rattle.crews.specs.declared.swap.Swap.{Swap}
 use Rattle.crews.specs.declared.swap.Difference.{Difference}

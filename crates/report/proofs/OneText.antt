@@ -2,29 +2,29 @@
 use Prim.Native.Nat.{ℕ, zero, suc, _+_, _≤_, _<_}
 use native.Mathlib.Omega.{arith}
 use mathlib.Core.Path.{_≡_, refl, sym, ap, ap₂, subst, _∙_}
-use mathlib.Core.Bool.{Bool, true, false, cond}
+use mathlib.Core.Bool.{true, false, cond}
 use mathlib.Core.Logic.{_⊎_, inl, inr, _≢_}
 use mathlib.Core.List.{List, [], _∷_, _++_}
 use lib.Dec.{ltb}
 use Rattle.std.specs.Results.{isOk}
-use Rattle.std.specs.declared.result.Result.the-variants.{Ok, Err}
+use Rattle.std.specs.declared.result.Result.the-variants.{Err}
 use Rattle.std.proofs.shelf.Tests.{cases-lt, cases-eq}
 use Rattle.net.specs.Meaning.{Meaning}
 use Rattle.net.specs.Limits.{Lawful}
 use Rattle.net.specs.declared.refusal.Fault.{Fault}
 use Rattle.team.specs.Classes.{InClass}
-use Rattle.team.specs.Pairings.{Cells, TeamPairing, AgreeBefore, Greatest}
+use Rattle.team.specs.Pairings.{Cells, AgreeBefore, Greatest}
 use Rattle.team.proofs.Classes.{counts-tell}
 use Rattle.records.specs.Check.{checked}
 use Rattle.records.specs.File.{sound, net-of}
 use Rattle.records.specs.FileLaws.{net-lawful}
 use Rattle.crews.specs.Crews.{Crews}
-use Rattle.crews.specs.Swaps.{swap-at, row-swaps, swaps, swap-list}
+use Rattle.crews.specs.Swaps.{row-swaps, swaps}
 use Rattle.crews.specs.Verdicts.{Alike, Apart}
 use Rattle.crews.specs.declared.swap.Swap.{Swap}
 use Rattle.crews.specs.declared.swap.Difference.{Difference}
 use Rattle.report.specs.Text.{alike-text, apart-text, refused-text}
-use Rattle.report.specs.Reports.{crews-of, Reports, refused, alike, apart, OneText}
+use Rattle.report.specs.Reports.{crews-of, refused, alike, apart, OneText}
 
 -- ## One swap list
 

@@ -51,3 +51,7 @@ placed-none at bytes = record {
   bytes = sym (take-append-drop at bytes) ∙ ap (λ i. take at bytes ++ drop i bytes) (omega arith);
   ends = omega arith;
 }
+
+-- a text over the front
+pub placed-front : (text before after : List ℕ) (end : ℕ) → Placed 0 text before after end → (end ≡ length text) × (after ≡ text ++ drop end before)
+placed-front text before after end placed = (omega (arith, placed .ends), placed .bytes ∙ ap (λ i. text ++ drop i before) (sym (placed .ends)))

@@ -2,7 +2,7 @@ use native.Mathlib.Omega.{arith}
 use mathlib.Core.Path.{ap, sym}
 use lib.ListN.{take}
 use Rattle.std.proofs.shelf.Lists.{take-all}
-use Rattle.report.specs.Text.{swap-line, swap-lines}
+use Rattle.report.specs.Text.{swap-lines}
 use Rattle.report.proofs.Lengths.{swap-lines-more, swap-room}
 use Rattle.report.proofs.Placing.{placed-append, placed-as, placed-none}
 use Rattle.report.proofs.lines.put_swaps.Needs as need

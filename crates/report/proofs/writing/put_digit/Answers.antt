@@ -1,4 +1,3 @@
-use native.Mathlib.Omega.{arith}
 use mathlib.Core.Path.{refl}
 use Rattle.report.proofs.Placing.{set-overwritten}
 use Rattle.report.proofs.writing.put_digit.Needs as need
