@@ -1,0 +1,5 @@
+pub mod Placing
+pub mod Lengths
+pub mod Fits
+pub mod Filling
+pub mod OneText
