@@ -25,7 +25,7 @@ use Rattle.team.specs.Pairings.{Cells}
 use Rattle.team.proofs.Sums.{tally-front}
 use Rattle.crews.specs.Crews.{Crews}
 use Rattle.crews.specs.Swaps.{swap-at, row-swaps, swaps}
-use Rattle.crews.specs.Verdicts.{Alike}
+use Rattle.crews.specs.Verdicts.{AlikeBy}
 use Rattle.crews.specs.declared.swap.Swap.{Swap}
 use Rattle.crews.specs.declared.swap.Difference.{Difference}
 use Rattle.report.specs.Text.{report-size, field, swap-line, swap-lines, alike-text, apart-text, spot-field, refused-text}
@@ -95,7 +95,7 @@ getD-small xs p = by-length (cases-lt p (length xs))
     by-length (inl l) = getD-le-sum xs p l
     by-length (inr l) = omega (arith, getD-past xs p 0 l)
 
-pub alike-fits : (m : Meaning) → Lawful m → (c : Crews) → sum (c .left) ≤ most-tokens → (list : List Swap) → Alike m c list → length (alike-text list) ≤ report-size
+pub alike-fits : (m : Meaning) → Lawful m → (c : Crews) → sum (c .left) ≤ most-tokens → (list : List Swap) → AlikeBy m c list → length (alike-text list) ≤ report-size
 alike-fits m law c light list alike =
     let n = m .places in
     let T = alike .table in

@@ -20,7 +20,7 @@ use Rattle.records.specs.File.{sound, net-of}
 use Rattle.records.specs.FileLaws.{net-lawful}
 use Rattle.crews.specs.Crews.{Crews}
 use Rattle.crews.specs.Swaps.{row-swaps, swaps}
-use Rattle.crews.specs.Verdicts.{Alike, Apart}
+use Rattle.crews.specs.Verdicts.{AlikeBy, ApartBy}
 use Rattle.crews.specs.declared.swap.Swap.{Swap}
 use Rattle.crews.specs.declared.swap.Difference.{Difference}
 use Rattle.report.specs.Text.{alike-text, apart-text, refused-text}
@@ -74,7 +74,7 @@ module _ (m : Meaning) (xs ys : List ℕ) (S T : Cells) (s : Greatest m xs ys S)
         | inr w ↦ row-agrees i (m .places) (omega arith) (omega arith) (λ a b v. front a b (omega arith)) j k
       ]
 
-one-list : (m : Meaning) (c : Crews) (a b : List Swap) → Alike m c a → Alike m c b → a ≡ b
+one-list : (m : Meaning) (c : Crews) (a b : List Swap) → AlikeBy m c a → AlikeBy m c b → a ≡ b
 one-list m c a b x y =
     x .listed
     ∙ same-rows (m .places) (x .table) (y .table) (λ p q l k. rows-agree m (c .left) (c .right) (x .table) (y .table) (x .greatest) (y .greatest) (m .places) (omega arith) p q l k) (m .places) (omega arith)
@@ -87,10 +87,10 @@ one-count m law xs p q k l known same a b =
     let there : InClass m xs p l = subst (λ (i : ℕ). InClass m xs i l) (sym same) b in
     counts-tell m law xs p known .alone k a ∙ sym (counts-tell m law xs p known .alone l there)
 
-not-lower : (m : Meaning) (c : Crews) (d e : Difference) → Apart m c d → Apart m c e → d .class < e .class → ⊥
+not-lower : (m : Meaning) (c : Crews) (d e : Difference) → ApartBy m c d → ApartBy m c e → d .class < e .class → ⊥
 not-lower m c d e x y h = x .differ (y .lower (d .class) (d .left) (d .right) h (x .on-left) (x .on-right))
 
-one-class : (m : Meaning) (c : Crews) (d e : Difference) → Apart m c d → Apart m c e → d .class ≡ e .class
+one-class : (m : Meaning) (c : Crews) (d e : Difference) → ApartBy m c d → ApartBy m c e → d .class ≡ e .class
 one-class m c d e x y = by-order (cases-lt (d .class) (e .class)) (cases-lt (e .class) (d .class))
   where
     by-order : (d .class < e .class) ⊎ (e .class ≤ d .class) → (e .class < d .class) ⊎ (d .class ≤ e .class) → d .class ≡ e .class
@@ -98,7 +98,7 @@ one-class m c d e x y = by-order (cases-lt (d .class) (e .class)) (cases-lt (e .
     by-order (inr h) (inl k) = absurd (not-lower m c e d y x k)
     by-order (inr h) (inr k) = omega arith
 
-one-difference : (m : Meaning) → Lawful m → (c : Crews) (d e : Difference) → Apart m c d → Apart m c e → d ≡ e
+one-difference : (m : Meaning) → Lawful m → (c : Crews) (d e : Difference) → ApartBy m c d → ApartBy m c e → d ≡ e
 one-difference m law c d e x y =
     let class = one-class m c d e x y in
     let left = one-count m law (c .left) (d .class) (e .class) (d .left) (e .left) (x .known) class (x .on-left) (y .on-left) in

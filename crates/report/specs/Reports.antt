@@ -9,7 +9,7 @@ use Rattle.records.specs.Check.{checked}
 use Rattle.records.specs.File.{sound, net-of}
 use Rattle.records.specs.Crews.{crew-after, crew-of}
 use Rattle.crews.specs.Crews.{Crews}
-use Rattle.crews.specs.Verdicts.{Alike, Apart}
+use Rattle.crews.specs.Verdicts.{AlikeBy, ApartBy}
 use Rattle.crews.specs.declared.swap.Swap.{Swap}
 use Rattle.crews.specs.declared.swap.Difference.{Difference}
 use Rattle.report.specs.Text.{alike-text, apart-text, refused-text}
@@ -25,8 +25,8 @@ crews-of bytes = record { left = crew-of bytes 0; right = crew-of bytes 1 }
 -- The report of a file: its fault, where the check refuses it; otherwise the verdict on its crews, with the swap list or the difference.
 pub data Reports (bytes : List ℕ) : List ℕ → Type 0 where
   refused : (f : Fault) → checked bytes ≡ Err f → Reports bytes (refused-text f)
-  alike : (list : List Swap) → sound bytes ≡ true → Alike (net-of bytes) (crews-of bytes) list → Reports bytes (alike-text list)
-  apart : (d : Difference) → sound bytes ≡ true → Apart (net-of bytes) (crews-of bytes) d → Reports bytes (apart-text d)
+  alike : (list : List Swap) → sound bytes ≡ true → AlikeBy (net-of bytes) (crews-of bytes) list → Reports bytes (alike-text list)
+  apart : (d : Difference) → sound bytes ≡ true → ApartBy (net-of bytes) (crews-of bytes) d → Reports bytes (apart-text d)
 
 -- a file has one report
 abbrev pub OneText : Type 0
