@@ -3,6 +3,7 @@ use class_tests::Listed;
 use class_tests::ListedNet;
 use classing::Move;
 use classing::NO_TARGET;
+use classing::WIDTH;
 use classing::classes;
 use net::MOST_TRANSITIONS;
 use net::Net;
@@ -20,7 +21,7 @@ fn net_of(places: usize, bytes: &[u8]) -> Listed {
     let mut rows = [Move {
         place: 0,
         label: 0,
-        targets: [NO_TARGET; 4],
+        targets: [NO_TARGET; WIDTH],
     }; MOST_TRANSITIONS];
     let mut count: usize = 0;
     for t in 0..MOST_TRANSITIONS {
