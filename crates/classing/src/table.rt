@@ -6,7 +6,7 @@ ghost use Rattle.net.specs.Limits.{most-places};
 ghost use Rattle.team.specs.Tables.{agree};
 use net::MOST_PLACES;
 
-// The entries past the places of the net are 0.
+// One entry for each place that a net can have; those past its own places say nothing.
 #[derive(Clone, Copy)]
 pub struct ClassTable {
     pub classes: [u8; MOST_PLACES],

@@ -96,7 +96,7 @@ Closure-is-pairing =
 
 -- ## The greatest pairing
 
--- a table that is greedy by the classes, as the computed one is, is the greatest pairing, with at most two cells above 0 for each place
+-- a table that is greedy by the classes, as the computed one is, is the greatest pairing
 pub record GreedyIs (m : Meaning) (xs ys : List ℕ) : Type 0 where
   pub greatest : (T : Cells) → Greedy (m .places) (alike m) xs ys T → Greatest m xs ys T
   pub computed : Greedy (m .places) (alike m) xs ys (greedy (alike m) xs ys)
@@ -104,6 +104,7 @@ pub record GreedyIs (m : Meaning) (xs ys : List ℕ) : Type 0 where
 abbrev pub Greedy-is-greatest : Type 0
 Greedy-is-greatest = (m : Meaning) → Lawful m → (xs ys : List ℕ) → Even m xs ys → GreedyIs m xs ys
 
+-- at most two cells for each place are above 0, whatever the relation
 abbrev pub Greedy-is-short : Type 0
 Greedy-is-short = (n : ℕ) (E : Relation) (xs ys : List ℕ) (T : Cells) → Greedy n E xs ys T → cells-above n T ≤ 2 * n
 
