@@ -23,8 +23,10 @@ fn run(rt: &LibcRuntime) -> Result<(), AnyError> {
         Ok(_) => print_classes(rt, bytes.as_slice()),
         Err(fault) => {
             let number = fault.refusal.number();
-            let spot = fault.spot.unwrap_or(0);
-            println!(rt, "REFUSED {number} {spot}")?;
+            match fault.spot {
+                Some(spot) => println!(rt, "REFUSED {number} {spot}")?,
+                None => println!(rt, "REFUSED {number}")?,
+            }
             Ok(())
         }
     }

@@ -28,3 +28,5 @@ pub use swap::SwapListDebug;
 pub use swap::SwapListPartialEq;
 pub use swap::SwapPartialEq;
 pub use swap::Verdict;
+pub use swap::VerdictDebug;
+pub use swap::VerdictPartialEq;
