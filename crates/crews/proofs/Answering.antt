@@ -1,18 +1,17 @@
 -- A transition that answers: told by classes and tables, and what it does to the crews.
-use Prim.Native.Nat.{ℕ, _+_, _≤_, _<_}
+use Prim.Native.Nat.{ℕ, _≤_, _<_}
 use native.Mathlib.Omega.{arith}
-use mathlib.Core.Path.{_≡_, refl, sym, ap, subst, _∙_}
+use mathlib.Core.Path.{_≡_, refl, sym, ap, _∙_}
 use mathlib.Core.Bool.{Bool, true, false, cond}
 use mathlib.Core.Logic.{_⊎_, inl, inr}
 use mathlib.Core.List.{List}
 use lib.Dec.{eqb}
-use lib.ListN.{length, getD}
+use lib.ListN.{getD}
 use Rattle.std.specs.shelf.Lists.{sum}
 use Rattle.std.proofs.shelf.Tests.{cases-lt, and-parts, eqb-true, ltb-true}
 use Rattle.std.proofs.shelf.Ways.{same-from-decides, decides-eqb, decides-like}
 use Rattle.net.specs.Meaning.{Meaning, transition, count-of, total-of}
 use Rattle.net.specs.Limits.{Lawful}
-use Rattle.net.specs.Lists.{zeros}
 use Rattle.net.specs.Markings.{fired}
 use Rattle.net.proofs.Markings.{sum-more, sum-fired}
 use Rattle.team.specs.Below.{tally}
@@ -27,9 +26,9 @@ use Rattle.team.proofs.Sums.{tally-cong, tally-some, cond-some}
 use Rattle.team.proofs.Closures.{closure-length}
 use Rattle.team.proofs.Classes.{alike-decides, paired-known, even-paired}
 use Rattle.team.proofs.Theorems.{follow-finds, follow-keeps, pairs-turn}
-use Rattle.crews.specs.Crews.{Crews, on-side, across, both}
+use Rattle.crews.specs.Crews.{Crews, on-side, across}
 use Rattle.crews.specs.Counting.{in-class}
-use Rattle.crews.specs.Following.{followed, AnsweredBy, FitsBy, candidate}
+use Rattle.crews.specs.Following.{AnsweredBy, FitsBy, candidate}
 use Rattle.crews.proofs.Judging.{same-alike}
 use Rattle.crews.proofs.Tables.{FrontOf}
 

@@ -1,11 +1,11 @@
 -- What compare answers, from what its parts found.
-use Prim.Native.Nat.{ℕ, min, _+_, _*_, _≤_, _<_}
+use Prim.Native.Nat.{ℕ, min, _+_, _*_, _≤_}
 use native.Mathlib.Omega.{arith}
 use mathlib.Core.Path.{_≡_, refl, sym, ap, subst, _∙_}
 use mathlib.Core.Logic.{inl, inr}
 use mathlib.Core.List.{List, _++_, append-assoc}
 use lib.ListN.{length, take, drop}
-use Rattle.std.specs.declared.option.Option.the-variants.{Some, None}
+use Rattle.std.specs.declared.option.Option.the-variants.{None}
 use Rattle.std.specs.declared.result.Result.{Result}
 use Rattle.std.specs.declared.result.Result.the-variants.{Ok, Err}
 use Rattle.std.proofs.shelf.Lists.{take-at}
@@ -16,20 +16,19 @@ use Rattle.net.specs.declared.refusal.Fault.{Fault}
 use Rattle.team.specs.Classes.{ClassedBy}
 use Rattle.crews.specs.Crews.{Crews}
 use Rattle.crews.specs.Calls.{cramped}
-use Rattle.crews.specs.Counting.{in-class, DiffersAt, Found}
+use Rattle.crews.specs.Counting.{DiffersAt, Found}
 use Rattle.crews.specs.Swaps.{swap-list}
 use Rattle.crews.specs.Pairs.{table-of}
-use Rattle.crews.specs.Tally.{Step, alike, apart, refused}
+use Rattle.crews.specs.Tally.{alike, apart, refused}
 use Rattle.crews.specs.Shows.{Shows, Steps, said-or}
 use Rattle.crews.specs.Verdicts.{AlikeBy}
-use Rattle.crews.specs.Compares.{Written, Unwritten, Turned-down, Compared}
+use Rattle.crews.specs.Compares.{Written, Unwritten, Compared}
 use Rattle.crews.specs.declared.bench.Bench.{Bench}
 use Rattle.crews.specs.declared.swap.Swap.{Swap}
 use Rattle.crews.specs.declared.swap.Difference.{Difference}
 use Rattle.crews.specs.declared.swap.Verdict.{Verdict}
 use Rattle.crews.specs.declared.swap.Verdict.the-variants.{Alike, Apart}
 use Rattle.crews.specs.declared.call.Call.the-variants.{Compare}
-use Rattle.crews.specs.declared.call.Answer.the-variants.{Refused}
 use Rattle.crews.proofs.Tables.{front-of-holds}
 use Rattle.crews.proofs.Judging.{judged-alike, judged-apart}
 

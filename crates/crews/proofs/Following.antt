@@ -12,10 +12,10 @@ use Rattle.std.specs.Options.{isSome}
 use Rattle.std.specs.declared.option.Option.{Option}
 use Rattle.std.specs.declared.option.Option.the-variants.{Some, None}
 use Rattle.std.proofs.shelf.Tests.{cases-eq}
-use Rattle.net.specs.Meaning.{Meaning, transition, count-of, total-of}
+use Rattle.net.specs.Meaning.{Meaning, transition, total-of}
 use Rattle.net.specs.Limits.{Lawful}
 use Rattle.net.specs.Markings.{fired}
-use Rattle.net.specs.Refusals.{Row, First, Free, plain}
+use Rattle.net.specs.Refusals.{Free, plain}
 use Rattle.net.specs.declared.refusal.Fault.{Fault}
 use Rattle.net.specs.declared.refusal.Refusal.the-variants.{CrewsApart, TooManyTokens}
 use Rattle.net.proofs.Markings.{sum-fired}
@@ -24,8 +24,8 @@ use Rattle.team.specs.Teams.{Paired}
 use Rattle.team.specs.Classes.{ClassedBy}
 use Rattle.team.specs.Follow.{Fits}
 use Rattle.crews.specs.Crews.{Crews, on-side, across, both}
-use Rattle.crews.specs.Calls.{not-ready, Meets}
-use Rattle.crews.specs.Counting.{in-class, DiffersAt, Found}
+use Rattle.crews.specs.Calls.{not-ready}
+use Rattle.crews.specs.Counting.{DiffersAt, Found}
 use Rattle.crews.specs.Following.{unlike, overfull, followed, FitsBy}
 use Rattle.crews.specs.Tally.{followed-by}
 use Rattle.crews.specs.Shows.{Holds, Shows, Steps, Ready, table-on, with-table}

@@ -1,25 +1,23 @@
 -- From a list of classes to the verdict on two crews.
-use Prim.Native.Nat.{ℕ, min, _+_, _-_, _*_, _≤_, _<_}
+use Prim.Native.Nat.{ℕ, min, _-_, _≤_, _<_}
 use native.Mathlib.Omega.{arith}
 use mathlib.Core.Path.{_≡_, refl, sym, ap, ap₂, subst, _∙_}
-use mathlib.Core.Bool.{Bool, true, false, cond}
-use mathlib.Core.Logic.{_⊎_, inl, inr, _≢_}
-use mathlib.Core.List.{List, _++_}
+use mathlib.Core.Bool.{cond}
+use mathlib.Core.Logic.{_⊎_, inl, inr}
+use mathlib.Core.List.{List}
 use lib.Dec.{eqb}
-use lib.ListN.{length, getD}
+use lib.ListN.{getD}
 use Rattle.std.specs.Orderings.{Decides}
 use Rattle.std.proofs.shelf.Tests.{cases-lt, eqb-true}
 use Rattle.std.proofs.shelf.Ways.{same-from-decides, decides-eqb, decides-like}
 use Rattle.net.specs.Meaning.{Meaning}
 use Rattle.net.specs.Limits.{Lawful}
 use Rattle.team.specs.Below.{tally}
-use Rattle.team.specs.Relations.{Relation}
-use Rattle.team.specs.Markings.{MarkingOf}
 use Rattle.team.specs.Tables.{same}
-use Rattle.team.specs.Teams.{Bisimilar, Paired}
+use Rattle.team.specs.Teams.{Bisimilar}
 use Rattle.team.specs.Classes.{alike, class-count, Even, Lowest, ClassedBy, InClass}
-use Rattle.team.specs.Pairings.{Cells, Greedy, Greatest, greedy}
-use Rattle.team.proofs.Sums.{tally-cong, tally-some, tally-zero, cond-some}
+use Rattle.team.specs.Pairings.{Greedy}
+use Rattle.team.proofs.Sums.{tally-cong, tally-some, cond-some}
 use Rattle.team.proofs.Greedy.{greedy-is}
 use Rattle.team.proofs.Cells.{greedy-short}
 use Rattle.team.proofs.Classes.{alike-decides, counts-tell, paired-even, even-paired}

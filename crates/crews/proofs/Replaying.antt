@@ -7,8 +7,8 @@ use lib.ListN.{length, getD, take, drop, set}
 use lib.Seq.{take-all}
 use Rattle.std.proofs.shelf.Lists.{take-more, take-more-set, drop-set-lt, drop-drop, length-set, length-take, take-append-drop}
 use Rattle.net.specs.Meaning.{Meaning}
-use Rattle.crews.specs.Crews.{Crews, nobody}
-use Rattle.crews.specs.Tally.{Event, Run, begin, then, events}
+use Rattle.crews.specs.Crews.{nobody}
+use Rattle.crews.specs.Tally.{Run, begin, then, events}
 use Rattle.crews.specs.Shows.{Shows, Steps, Extends, Led, Replayed}
 use Rattle.crews.specs.declared.bench.Bench.{Bench}
 use Rattle.crews.specs.declared.call.Call.{Call}

@@ -4,14 +4,12 @@ use native.Mathlib.Omega.{arith}
 use borrow.Author.Count.{below-more}
 use mathlib.Core.Path.{_≡_, refl, sym, ap, ap₂, subst, _∙_}
 use mathlib.Core.Bool.{cond}
-use mathlib.Core.Logic.{inl, inr}
 use mathlib.Core.List.{List, [], _∷_, _++_, append-assoc, append-nil}
 use lib.ListN.{length, getD, take, drop, set, length-append}
 use Rattle.std.proofs.shelf.Lists.{getD-set-same, getD-set-other, take-append-drop, take-at, drop-at, drop-drop, length-take-le, length-replicate}
-use Rattle.std.proofs.shelf.Tests.{cases-lt}
 use Rattle.team.specs.Below.{tally}
 use Rattle.team.specs.Tables.{same}
-use Rattle.team.specs.Pairings.{Cells, Greedy}
+use Rattle.team.specs.Pairings.{Cells}
 use Rattle.team.proofs.Sums.{tally-next, tally-grows}
 use Rattle.team.proofs.Greedy.{greedy-is, cell-le, column-within}
 use Rattle.crews.specs.Swaps.{swap-at, row-swaps, swaps}

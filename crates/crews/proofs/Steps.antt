@@ -1,9 +1,9 @@
 -- How each call of the bench ends.
 use Prim.Native.Nat.{ℕ, _+_, _-_, _<_, _≤_}
 use native.Mathlib.Omega.{arith}
-use mathlib.Core.Path.{_≡_, refl, sym, ap, subst, _∙_}
-use mathlib.Core.Logic.{inl, inr}
-use mathlib.Core.List.{List, [], _∷_, _++_}
+use mathlib.Core.Path.{_≡_, sym, ap, subst, _∙_}
+use mathlib.Core.Logic.{inl}
+use mathlib.Core.List.{List, _++_}
 use lib.ListN.{length, getD, set}
 use Rattle.std.specs.shelf.Lists.{sum}
 use Rattle.net.specs.Meaning.{Meaning, transition, count-of, total-of}

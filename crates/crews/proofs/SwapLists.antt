@@ -3,14 +3,14 @@ use Prim.Native.Nat.{ℕ, zero, suc, _+_, _*_, _<_, _≤_}
 use native.Mathlib.Omega.{arith}
 use mathlib.Core.Path.{_≡_, refl, sym, ap, _∙_}
 use mathlib.Core.Bool.{Bool, true, false, cond}
-use mathlib.Core.List.{List, [], _∷_, _++_, append-assoc, append-nil}
+use mathlib.Core.List.{List, [], _∷_, _++_, append-assoc}
 use lib.Dec.{ltb}
 use lib.ListN.{length, getD, drop, set, length-append}
 use Rattle.std.proofs.shelf.Lists.{set-at, drop-more}
 use Rattle.std.proofs.shelf.Tests.{lt-ltb, le-ltb}
 use Rattle.team.specs.Below.{tally}
 use Rattle.team.specs.Relations.{Relation}
-use Rattle.team.specs.Pairings.{Cells, Greedy, cells-above}
+use Rattle.team.specs.Pairings.{Cells, Greedy}
 use Rattle.team.proofs.Sums.{tally-front}
 use Rattle.team.proofs.Cells.{greedy-short}
 use Rattle.crews.specs.Swaps.{swap-at, row-swaps, swaps}

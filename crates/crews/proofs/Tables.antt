@@ -3,11 +3,11 @@ use Prim.Native.Nat.{ℕ, _+_, _-_, _<_, _≤_}
 use native.Mathlib.Omega.{arith}
 use mathlib.Core.Path.{_≡_, refl, sym, ap, subst, _∙_}
 use mathlib.Core.Bool.{Bool, true, false, cond}
-use mathlib.Core.List.{List, _++_}
+use mathlib.Core.List.{List}
 use lib.Dec.{eqb}
 use lib.ListN.{length, getD, take, set}
 use Rattle.std.specs.shelf.Lists.{sum}
-use Rattle.std.proofs.shelf.Lists.{replicate-append-replicate, length-replicate, length-append, length-set, getD-append-left, set-append-left, length-take-le, getD-take}
+use Rattle.std.proofs.shelf.Lists.{replicate-append-replicate, length-replicate, length-set, getD-append-left, set-append-left, length-take-le, getD-take}
 use Rattle.net.specs.Meaning.{Meaning, transition, count-of}
 use Rattle.net.specs.Limits.{Lawful}
 use Rattle.net.specs.Lists.{zeros, sum-append-zeros}

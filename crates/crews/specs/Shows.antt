@@ -10,7 +10,7 @@ use Rattle.std.specs.declared.result.Result.the-variants.{Ok, Err}
 use Rattle.net.specs.Meaning.{Meaning, transition, count-of}
 use Rattle.net.specs.Limits.{most-places}
 use Rattle.net.specs.Lists.{zeros}
-use Rattle.net.specs.Refusals.{when, First, Free}
+use Rattle.net.specs.Refusals.{when, First}
 use Rattle.net.specs.declared.refusal.Refusal.the-variants.{ShortList}
 use Rattle.net.specs.declared.refusal.Fault.{Fault}
 use Rattle.crews.specs.Crews.{Crews}

@@ -1,7 +1,5 @@
 // The bench: two crews on the places of one net, and the calls that move their tokens.
-ghost use Prim.Native.Nat.{_≤_};
 ghost use mathlib.Core.Path.{_≡_};
-ghost use lib.ListN.{getD};
 ghost use Rattle.net.specs.Meaning.{count-of};
 ghost use Rattle.net.specs.Refusals.{Tried};
 ghost use Rattle.team.specs.Classes.{ClassedBy};

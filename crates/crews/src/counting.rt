@@ -1,7 +1,7 @@
 // The tokens of two crews, counted class by class.
 ghost use Prim.Native.Nat.{ℕ, _<_, _≤_};
 ghost use mathlib.Core.Path.{_≡_};
-ghost use lib.ListN.{length, getD};
+ghost use lib.ListN.{getD};
 ghost use Rattle.std.specs.shelf.Lists.{sum};
 ghost use Rattle.crews.specs.Counting.{in-class, Found};
 use crate::Difference;

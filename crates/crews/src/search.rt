@@ -2,10 +2,8 @@
 ghost use Prim.Native.Nat.{ℕ, _<_};
 ghost use mathlib.Core.Path.{_≡_};
 ghost use mathlib.Core.Bool.{_&&_};
-ghost use lib.Dec.{eqb, ltb};
 ghost use lib.ListN.{getD};
 ghost use Rattle.net.specs.Meaning.{count-of};
-ghost use Rattle.team.specs.Tables.{same};
 ghost use Rattle.crews.specs.Following.{FitsBy, candidate};
 use classing::ClassTable;
 use classing::tokens_in;

@@ -3,14 +3,14 @@ use Prim.Native.Nat.{ℕ, _+_, _-_, _≤_, _<_}
 use native.Mathlib.Omega.{arith}
 use mathlib.Core.Path.{_≡_, refl, sym, ap, subst, _∙_}
 use mathlib.Core.Bool.{Bool, true, false, cond}
-use mathlib.Core.List.{_++_, map}
+use mathlib.Core.List.{map}
 use lib.Dec.{leb}
-use lib.ListN.{length, getD, length-append, length-replicate}
+use lib.ListN.{length, length-append, length-replicate}
 use borrow.Author.Tests.{leb-true, leb-false}
 use Rattle.std.proofs.shelf.Lists.{getD-append-left, getD-append-right, getD-map, getD-past, length-map}
 use Rattle.std.proofs.shelf.Tests.{and-parts}
 use Rattle.net.specs.Meaning.{Meaning, Transition, transition, idle, count-of, tokens-on, total-of, empty}
-use Rattle.net.specs.Limits.{Lawful, Within, most-places, most-transitions, empty-lawful}
+use Rattle.net.specs.Limits.{Lawful, Within, empty-lawful}
 use Rattle.net.specs.Lists.{zeros, getD-append-zeros, sum-append-zeros, getD-zeros-append, sum-zeros-append}
 use Rattle.std.specs.declared.option.Option.{Option}
 use Rattle.std.specs.declared.option.Option.the-variants.{Some, None}

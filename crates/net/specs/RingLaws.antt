@@ -4,12 +4,12 @@ use native.Mathlib.Nat.{mod-lt}
 use native.Mathlib.Omega.{arith}
 use mathlib.Core.Path.{_≡_, refl, sym, ap, subst, _∙_}
 use mathlib.Core.Bool.{true, false, cond}
-use lib.ListN.{length, getD, set, length-replicate, length-set}
+use lib.ListN.{length, length-replicate, length-set}
 use lib.Seq.{getD-set-same, getD-set-other}
 use Rattle.std.proofs.shelf.Lists.{getD-past}
 use Rattle.std.proofs.shelf.Counted.{length-map-counting, getD-map-counting}
 use Rattle.std.proofs.shelf.Sums.{sumBy-set}
-use Rattle.net.specs.Meaning.{Meaning, Transition, transition, idle, count-of, tokens-on, total-of, empty}
+use Rattle.net.specs.Meaning.{transition, idle, count-of, tokens-on, total-of, empty}
 use Rattle.net.specs.Limits.{Lawful, Within, most-places, most-label}
 use Rattle.net.specs.Lists.{zeros, getD-zeros, sum-zeros}
 use Rattle.net.specs.Rings.{onward, circle, ring, ring-fits}

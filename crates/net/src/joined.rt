@@ -1,7 +1,7 @@
 // The joined net: two nets side by side as one.
 ghost use Prim.Native.Nat.{_+_};
 ghost use mathlib.Core.Path.{_≡_};
-ghost use mathlib.Core.Bool.{true, false, cond};
+ghost use mathlib.Core.Bool.{cond};
 ghost use Rattle.std.specs.declared.result.Result.the-variants.{Ok, Err};
 ghost use Rattle.net.specs.Joins.{joined as joinOf, fits as fitting};
 ghost use Rattle.net.specs.JoinLaws.{joined-lawful, Seamed};

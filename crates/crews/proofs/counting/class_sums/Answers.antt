@@ -1,7 +1,7 @@
 use borrow.Author.Needs.{needs}
 use native.Mathlib.Omega.{arith}
 use Prim.Native.Nat.{_+_, _<_, _≤_}
-use mathlib.Core.Path.{_≡_, refl}
+use mathlib.Core.Path.{refl}
 use lib.ListN.{getD}
 use Rattle.crews.proofs.ClassSums.{sums-none, sums-more, sums-small}
 use Rattle.crews.proofs.counting.class_sums.Needs as need

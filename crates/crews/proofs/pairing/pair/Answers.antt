@@ -1,6 +1,6 @@
 use borrow.Author.Needs.{needs}
 use native.Mathlib.Omega.{arith}
-use mathlib.Core.Path.{_≡_, refl}
+use mathlib.Core.Path.{refl}
 use Rattle.crews.specs.Pairs.{table-of}
 use Rattle.crews.proofs.RowCells.{pair-none, pair-more, pair-all}
 use Rattle.crews.proofs.pairing.pair.Needs as need

@@ -1,4 +1,3 @@
-use lib.ListN.{length}
 use Rattle.crews.specs.Pairs.{table-of}
 use Rattle.crews.proofs.RowCells.{PairGoing}
 use Rattle.crews.proofs.pairing.pair.Given as given

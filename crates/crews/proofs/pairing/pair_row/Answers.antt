@@ -1,9 +1,9 @@
 use borrow.Author.Needs.{needs}
 use native.Mathlib.Omega.{arith}
 use Prim.Native.Nat.{_<_}
-use mathlib.Core.Path.{_≡_, refl}
+use mathlib.Core.Path.{refl}
 use lib.ListN.{length}
-use Rattle.crews.proofs.RowCells.{row-none, row-all, column-small, entry-room, row-kept, row-pushed}
+use Rattle.crews.proofs.RowCells.{row-none, column-small, entry-room, row-kept, row-pushed}
 use Rattle.crews.proofs.pairing.pair_row.Needs as need
 use Rattle.crews.proofs.pairing.pair_row.Needs.{then-k-gt0, else-k-gt0}
 

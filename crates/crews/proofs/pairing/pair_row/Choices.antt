@@ -1,5 +1,4 @@
-use mathlib.Core.Path.{_≡_}
-use lib.ListN.{length, getD}
+use lib.ListN.{getD}
 use Rattle.crews.specs.Pairs.{table-of}
 use Rattle.crews.proofs.RowCells.{RowGoing}
 use Rattle.crews.proofs.pairing.pair_row.Given as given

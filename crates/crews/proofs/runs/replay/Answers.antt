@@ -1,6 +1,5 @@
 use native.Mathlib.Omega.{arith}
 use mathlib.Core.Path.{_≡_, refl, sym, subst, _∙_}
-use mathlib.Core.Logic.{inl}
 use lib.ListN.{length, getD}
 use Rattle.crews.specs.Crews.{nobody}
 use Rattle.crews.specs.Shows.{Shows, Extends, Replayed}

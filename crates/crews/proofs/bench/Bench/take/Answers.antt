@@ -1,8 +1,5 @@
-use borrow.Author.Needs.{needs}
 use native.Mathlib.Omega.{arith}
-use Prim.Native.Nat.{_+_, _<_, _≤_}
 use mathlib.Core.Path.{refl}
-use Rattle.std.specs.shelf.Lists.{sum}
 use Rattle.std.proofs.shelf.Results.{err-from-errBy}
 use Rattle.crews.specs.Crews.{on-side}
 use Rattle.crews.specs.Calls.{lacking}

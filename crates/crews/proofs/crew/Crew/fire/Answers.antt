@@ -1,11 +1,10 @@
-use borrow.Author.Needs.{needs}
 use native.Mathlib.Omega.{arith}
-use Prim.Native.Nat.{ℕ, _<_}
+use Prim.Native.Nat.{ℕ}
 use mathlib.Core.Path.{_≡_, ap, _∙_}
 use lib.ListN.{getD}
 use Rattle.std.specs.shelf.Lists.{sum}
 use Rattle.net.specs.Meaning.{transition}
-use Rattle.net.specs.Markings.{fewer, plus}
+use Rattle.net.specs.Markings.{fewer}
 use Rattle.net.proofs.Markings.{sum-plus}
 use Rattle.crews.proofs.crew.Crew.fire.Needs as need
 

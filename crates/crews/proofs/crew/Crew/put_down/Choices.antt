@@ -1,7 +1,5 @@
-use Prim.Native.Nat.{_+_, _-_, _≤_}
-use mathlib.Core.Path.{_≡_}
-use lib.ListN.{length, take}
-use Rattle.std.specs.shelf.Lists.{sum}
+use Prim.Native.Nat.{_-_}
+use lib.ListN.{length}
 use Rattle.net.specs.Meaning.{transition}
 use Rattle.crews.proofs.PutDown.{Going}
 use Rattle.crews.proofs.crew.Crew.put_down.Given as given

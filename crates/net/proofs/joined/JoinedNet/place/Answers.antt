@@ -1,5 +1,5 @@
 use borrow.Author.Needs.{needs}
-use Prim.Native.Nat.{_-_, _<_, _≤_}
+use Prim.Native.Nat.{_-_, _≤_}
 use Rattle.net.specs.JoinLaws.{join-answers}
 use Rattle.net.proofs.joined.JoinedNet.place.Needs as need
 
