@@ -88,7 +88,7 @@ alike-short list small few = omega (arith, lines-short list small)
 
 -- ## The three texts
 
-getD-small : (xs : List ℕ) (p : ℕ) → getD xs p 0 ≤ sum xs
+pub getD-small : (xs : List ℕ) (p : ℕ) → getD xs p 0 ≤ sum xs
 getD-small xs p = by-length (cases-lt p (length xs))
   where
     by-length : (p < length xs) ⊎ (length xs ≤ p) → getD xs p 0 ≤ sum xs

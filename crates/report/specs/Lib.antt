@@ -1,3 +1,4 @@
 pub mod Text
 pub mod Places
 pub mod Reports
+pub mod Reporting
