@@ -13,7 +13,7 @@ use std::io::Read;
 
 // The bytes of a file, up to one record more than a file may have: by those it is judged.
 // None where the file cannot be read, which is told.
-pub fn read_file(rt: &LibcRuntime, path: &str) -> Result<Option<Vec<u8>>, AnyError> {
+pub(crate) fn read_file(rt: &LibcRuntime, path: &str) -> Result<Option<Vec<u8>>, AnyError> {
     match front_of(rt, path) {
         Ok(bytes) => Ok(Some(bytes)),
         Err(error) => {
@@ -32,7 +32,7 @@ fn front_of(rt: &LibcRuntime, path: &str) -> io::Result<Vec<u8>> {
 }
 
 // Whether the file check admits the bytes; prints the refusal where it does not.
-pub fn admits(rt: &LibcRuntime, bytes: &[u8]) -> Result<bool, AnyError> {
+pub(crate) fn admits(rt: &LibcRuntime, bytes: &[u8]) -> Result<bool, AnyError> {
     match check(bytes) {
         Ok(_) => Ok(true),
         Err(fault) => {
@@ -42,7 +42,7 @@ pub fn admits(rt: &LibcRuntime, bytes: &[u8]) -> Result<bool, AnyError> {
     }
 }
 
-pub fn print_refusal(rt: &LibcRuntime, fault: Fault) -> Result<(), AnyError> {
+pub(crate) fn print_refusal(rt: &LibcRuntime, fault: Fault) -> Result<(), AnyError> {
     let number = fault.refusal.number();
     match fault.spot {
         Some(spot) => println!(rt, "REFUSED {number} {spot}")?,
@@ -52,7 +52,11 @@ pub fn print_refusal(rt: &LibcRuntime, fault: Fault) -> Result<(), AnyError> {
 }
 
 // Adds a put call for each token record of the file, with its places moved up by `shift`.
-pub fn add_tokens(net: &FileNet, shift: usize, calls: &mut Vec<Call>) -> Result<(), AllocError> {
+pub(crate) fn add_tokens(
+    net: &FileNet,
+    shift: usize,
+    calls: &mut Vec<Call>,
+) -> Result<(), AllocError> {
     for k in 0..net.records() {
         if let Some(tokens) = net.token_record(k) {
             calls.push(Call::Put {

@@ -5,14 +5,14 @@ use std::str::SplitWhitespace;
 
 // What a line of a script says.
 #[derive(Clone, Copy)]
-pub enum Line {
+pub(crate) enum Line {
     // blank, or a remark that begins with #
     Nothing,
     Makes(Call),
     NotACall,
 }
 
-pub fn read_line(line: &str) -> Line {
+pub(crate) fn read_line(line: &str) -> Line {
     let mut words = line.split_whitespace();
     let Some(name) = words.next() else {
         return Line::Nothing;
@@ -77,7 +77,7 @@ fn next_number(words: &mut SplitWhitespace) -> Option<usize> {
 }
 
 // The number that a word of decimal digits writes, up to 2^64 - 1.
-pub fn number(word: &str) -> Option<usize> {
+pub(crate) fn number(word: &str) -> Option<usize> {
     if word.starts_with('+') {
         return None;
     }

@@ -4,14 +4,14 @@ use std::env;
 use std::error::AnyError;
 
 #[derive(Drop)]
-pub enum Source {
+pub(crate) enum Source {
     Ring { size: usize, label: usize },
     File(String),
     Joined(String, String),
 }
 
 // The net that the arguments name, or none where they name none.
-pub fn named_source(rt: &LibcRuntime) -> Result<Option<Source>, AnyError> {
+pub(crate) fn named_source(rt: &LibcRuntime) -> Result<Option<Source>, AnyError> {
     let mut words = env::args(rt)?;
     let _program = words.next();
     let Some(first) = words.next() else {

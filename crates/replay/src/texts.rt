@@ -15,7 +15,7 @@ use std::alloc::AllocError;
 use std::alloc::Global;
 
 // The line that is printed for a call: the call, and behind a colon its answer.
-pub fn line(heap: Global, call: Call, answer: Answer) -> Result<String, AllocError>
+pub(crate) fn line(heap: Global, call: Call, answer: Answer) -> Result<String, AllocError>
     ensures { λ r. ⌜ made r (λ s. string-bytes s ≡ line-text call answer) ⌝ }
 {
     let mut text = call_line(heap, call)?;
