@@ -11,6 +11,10 @@ use std::io::Write;
 const MOST_BYTES: u64 = (RECORD_SIZE * (MOST_RECORDS + 1)) as u64;
 
 fn main(rt: LibcRuntime) -> Result<(), AnyError> {
+    rt.report(print_report(&rt))
+}
+
+fn print_report(rt: &LibcRuntime) -> Result<(), AnyError> {
     let heap = rt.alloc();
     let mut bytes = Vec::new(heap);
     rt.stdin().take(MOST_BYTES).read_to_end(&mut bytes)?;
