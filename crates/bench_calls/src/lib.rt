@@ -1,4 +1,6 @@
 // What the timing program in bench/ links: the classes call on a listed net and on a ring, over and over.
+#![tactic(auto)]
+
 use class_tests::Listed;
 use classing::{Move, NO_TARGET, WIDTH, classes};
 use net::{MOST_TRANSITIONS, Net, Ring};

@@ -1,4 +1,6 @@
 // Tests of the classes, on nets that are given as lists of moves.
+#![tactic(auto)]
+
 mod checks;
 mod listed;
 

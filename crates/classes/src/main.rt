@@ -1,4 +1,6 @@
 // Prints the rounds and the classes of the net of a record file on standard input.
+#![tactic(auto)]
+
 use anyhow::anyhow;
 use classing::classes;
 use net::{MOST_PLACES, Net};

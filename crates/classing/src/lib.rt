@@ -1,4 +1,6 @@
 // The classes of a net's places: which places are bisimilar, and how many tokens a transition puts into a class.
+#![tactic(auto)]
+
 ghost use Rattle.classing.specs.Answers.{ClassesAnswer, TokensIn};
 
 use net::{Fault, Net, Refusal};

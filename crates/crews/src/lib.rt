@@ -1,4 +1,6 @@
 // The bench: two crews of tokens on a net, and the calls that move them.
+#![tactic(auto)]
+
 mod bench;
 mod call;
 mod compare;

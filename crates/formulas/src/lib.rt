@@ -1,4 +1,6 @@
 // The lines of a sheet: formulas that hold at some places of a net and not at others, each built on the lines before it.
+#![tactic(auto)]
+
 ghost use Rattle.formulas.specs.Theorems.{LinesHold, LinesRespect};
 
 mod line;

@@ -1,4 +1,6 @@
 // Nets: what a net means, the questions that every kind of net answers, and the kinds that are made of numbers or of other nets.
+#![tactic(auto)]
+
 ghost use Rattle.std.specs.Prelude.{◌≡◌};
 ghost use Rattle.net.specs.Meaning.{Meaning, transition, count_of, tokens_on, total_of};
 ghost use Rattle.net.specs.Limits.{Lawful};

@@ -1,4 +1,6 @@
 // Record files: a net and its two crews as a run of records of 8 bytes. The check, the net of a file, and a net written as a file.
+#![tactic(auto)]
+
 mod counts;
 mod file_check;
 mod file_net;

@@ -1,4 +1,6 @@
 // Replays a script of calls on a bench over a net, and prints each call with its answer.
+#![tactic(auto)]
+
 mod files;
 mod script;
 mod source;

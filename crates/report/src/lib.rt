@@ -1,4 +1,6 @@
 // The report of a record file, as text in the caller's bytes.
+#![tactic(auto)]
+
 mod file_bench;
 mod file_report;
 mod lines;

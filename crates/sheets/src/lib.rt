@@ -1,4 +1,6 @@
 // Sheets: formulas that tell the classes of places apart.
+#![tactic(auto)]
+
 mod blocks;
 mod cut;
 mod does;

@@ -1,4 +1,6 @@
 // Team bisimulation. What it is stands in specs/; each function here stands for one theorem about it, which its contract names, and does nothing else.
+#![tactic(auto)]
+
 ghost use Rattle.team.specs.Theorems.{BisimilarityIsEquivalence, BisimilarityIsLargest, TeamsLieInStages, StableStagesAreTeams, RoundsEnd, TablesAreStages};
 ghost use Rattle.team.specs.Theorems.{ClassesAlwaysDecide, CountsAlwaysTell, ClosureIsEven, ClosureIsPairing, GreedyIsGreatest, GreedyIsShort};
 ghost use Rattle.team.specs.Theorems.{FollowFinds, FollowKeeps, PairsTurn};

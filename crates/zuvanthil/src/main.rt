@@ -1,4 +1,6 @@
 // Prints the report of the record file on standard input.
+#![tactic(auto)]
+
 use anyhow::anyhow;
 use records::{MOST_RECORDS, RECORD_SIZE};
 use report::{REPORT_SIZE, report};
