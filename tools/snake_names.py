@@ -76,7 +76,7 @@ def bound(text):
         found.update(WORD.findall(m.group(1)))
     for m in re.finditer(r"λ ([^.]*)\.", text):
         found.update(WORD.findall(m.group(1)))
-    for m in re.finditer(r"^\s+(?:pub )?([\w'-]+)\s+:\s", text, re.M):
+    for m in re.finditer(r"^[ \t]+(?:pub )?([\w'-]+)[ \t]+:\s", text, re.M):
         found.add(m.group(1))
     for m in re.finditer(r"\(([\w' -]+) : ", text):
         found.update(WORD.findall(m.group(1)))

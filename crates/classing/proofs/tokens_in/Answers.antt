@@ -6,8 +6,8 @@ use Rattle.team.proofs.Sums.{tally_next}
 use Rattle.classing.proofs.Tokens.{class_tokens}
 use Rattle.classing.proofs.tokens_in.Goals as goal
 
-pub loop_p_preserved : goal.loop_p_preserved
-loop_p_preserved g c = grind (arith, tally_next, nat_tests)
+pub loop-p-preserved : goal.loop-p-preserved
+loop-p-preserved g c = grind (arith, tally_next, nat_tests)
 
 pub returns : goal.returns
 returns g c =

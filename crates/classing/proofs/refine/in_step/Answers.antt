@@ -4,8 +4,8 @@ use Rattle.classing.specs.Staying.{Has}
 use Rattle.classing.proofs.Walks.{walk_more}
 use Rattle.classing.proofs.refine.in_step.Goals as goal
 
-pub loop_t_preserved : goal.loop_t_preserved
-loop_t_preserved c =
+pub loop-t-preserved : goal.loop-t-preserved
+loop-t-preserved c =
     let s = c.args.snapshot.now in
     let xs = c.args.profiles.now in
     let e : get_or xs c.loop-t.t no_profile ≡ get_or xs c.loop-t.u no_profile = c.same.ensures.0 c.if-not-same.false in (

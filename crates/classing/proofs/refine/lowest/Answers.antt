@@ -4,8 +4,8 @@ use Rattle.classing.proofs.Staying.{stays_later}
 use Rattle.classing.proofs.refine.lowest.Goals as goal
 use Rattle.classing.proofs.refine.lowest.Goals.{else-from-q-via-then-from-q+else-stay, else-from-q-via-else-from-q}
 
-pub loop_q_preserved : goal.loop_q_preserved
-loop_q_preserved c =
+pub loop-q-preserved : goal.loop-q-preserved
+loop-q-preserved c =
     below_more _ _ c.loop-q.invariant
     (elim c.else-from-q.branch [
       | else-from-q-via-then-from-q+else-stay w ↦ not_from_Decides _ w.stay.ensures w.if-stay.false

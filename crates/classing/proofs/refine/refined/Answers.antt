@@ -3,8 +3,8 @@ use Rattle.classing.specs.Staying.{LowestStay}
 use Rattle.classing.proofs.Writes.{write_more}
 use Rattle.classing.proofs.refine.refined.Goals as goal
 
-pub loop_p_preserved : goal.loop_p_preserved
-loop_p_preserved c = (
+pub loop-p-preserved : goal.loop-p-preserved
+loop-p-preserved c = (
   length-set c.loop-p.next.classes c.loop-p.p c.lowest.result ∙ c.loop-p.invariant.0,
   write_more (λ k x. LowestStay c.args.snapshot.now c.args.profiles.now c.args.table.now.classes k x) c.loop-p.next.classes c.loop-p.p c.lowest.result 0
       (omega (arith, c.loop-p.invariant.0, c.requires.sound.few_places)) c.loop-p.invariant.1 c.lowest.ensures,

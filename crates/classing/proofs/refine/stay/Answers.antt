@@ -1,8 +1,8 @@
 use Rattle.std.proofs.Common.{arith}
 use Rattle.classing.proofs.refine.stay.Goals as goal
 
-pub returns_then_is_covered : goal.returns_then_is_covered
-returns_then_is_covered c = (
+pub returns-then-is-covered : goal.returns-then-is-covered
+returns-then-is-covered c = (
   λ r. record {
     before = omega arith;
     forth = c.is-covered.ensures.0 c.if-is-covered.true;

@@ -2,11 +2,11 @@ use Rattle.std.proofs.Common.{◌-◌, arith}
 use Rattle.classing.proofs.Linking.{link_more, link_none, link_all}
 use Rattle.classing.proofs.snapshot.link.Goals as goal
 
-pub loop_t_init : goal.loop_t_init
-loop_t_init c = link_none c.args.count c.args.moves.now c.args.firsts.now c.args.nexts.now c.requires.clear
+pub loop-t-init : goal.loop-t-init
+loop-t-init c = link_none c.args.count c.args.moves.now c.args.firsts.now c.args.nexts.now c.requires.clear
 
-pub loop_t_preserved : goal.loop_t_preserved
-loop_t_preserved c =
+pub loop-t-preserved : goal.loop-t-preserved
+loop-t-preserved c =
     link_more c.args.count c.args.moves.now c.loop-t.firsts c.loop-t.nexts c.loop-t.t c.from-p.result c.loop-t-test.true c.from-p.ensures
     (omega (arith, c.requires.known (c.loop-t.t - 1) (omega arith))) (omega arith) (omega arith) c.loop-t.invariant
 

@@ -3,16 +3,16 @@ use Rattle.crews.specs.Pairs.{table_of}
 use Rattle.crews.proofs.RowCells.{pair_none, pair_more, pair_all}
 use Rattle.crews.proofs.pairing.pair.Goals as goal
 
-pub loop_p_init : goal.loop_p_init
-loop_p_init c = pair_none c.args.n (table_of c.args.classes.now c.args.left.now c.args.right.now) c.args.list.now _ refl
+pub loop-p-init : goal.loop-p-init
+loop-p-init c = pair_none c.args.n (table_of c.args.classes.now c.args.left.now c.args.right.now) c.args.list.now _ refl
 
-pub pair_row_used_requires : goal.pair_row_used_requires
-pair_row_used_requires c =
+pub pair-row-used-requires : goal.pair-row-used-requires
+pair-row-used-requires c =
     let inv = c.loop-p.invariant in
     record { few = c.requires.few; row = c.loop-p-test.true; columns = inv.columns; begun = inv.count; room = omega (arith, c.requires.room, c.loop-p.auto.list) }
 
-pub loop_p_preserved : goal.loop_p_preserved
-loop_p_preserved c =
+pub loop-p-preserved : goal.loop-p-preserved
+loop-p-preserved c =
     pair_more c.args.n (table_of c.args.classes.now c.args.left.now c.args.right.now) c.loop-p.p c.args.list.now c.loop-p.taken c.pair-row-used.new.taken
     c.loop-p.list c.pair-row-used.new.list c.loop-p.used c.pair-row-used.result (search rules) c.loop-p.invariant c.pair-row-used.ensures
 

@@ -3,11 +3,11 @@ use Rattle.crews.proofs.RowCells.{row_none, column_small, entry_room, row_kept, 
 use Rattle.crews.proofs.pairing.pair_row.Goals as goal
 use Rattle.crews.proofs.pairing.pair_row.Goals.{then-k-gt0, else-k-gt0}
 
-pub loop_q_init : goal.loop_q_init
-loop_q_init c = row_none c.args.n _ _ c.args.p c.args.start c.args.list.now c.args.taken.now c.requires.columns
+pub loop-q-init : goal.loop-q-init
+loop-q-init c = row_none c.args.n _ _ c.args.p c.args.start c.args.list.now c.args.taken.now c.requires.columns
 
-pub overflow_sub_right : goal.overflow_sub_right
-overflow_sub_right c =
+pub overflow-sub-right : goal.overflow-sub-right
+overflow-sub-right c =
     column_small c.args.n c.args.classes.now c.args.left.now c.args.right.now c.args.p c.loop-q.q c.args.start _ c.loop-q.taken c.loop-q.have _ _ c.requires.row
     c.loop-q-test.true c.loop-q.invariant
 
@@ -17,17 +17,17 @@ room c =
     entry_room c.args.n c.args.classes.now c.args.left.now c.args.right.now c.args.p c.loop-q.q c.args.start _ c.loop-q.taken c.loop-q.have _ _ c.requires.row
     c.loop-q-test.true c.loop-q.invariant c.cell-k.result c.cell-k.ensures c.requires.begun c.requires.room c.if-k-gt0.true
 
-pub offset_bounds_list_used : goal.offset_bounds_list_used
-offset_bounds_list_used c = let here = room c in search rules
+pub offset-bounds-list-used : goal.offset-bounds-list-used
+offset-bounds-list-used c = let here = room c in search rules
 
-pub bounds_list_used : goal.bounds_list_used
-bounds_list_used c = omega (arith, room c, c.loop-q.auto.list)
+pub bounds-list-used : goal.bounds-list-used
+bounds-list-used c = omega (arith, room c, c.loop-q.auto.list)
 
-pub overflow_add_used : goal.overflow_add_used
-overflow_add_used c = let here = room c in search rules
+pub overflow-add-used : goal.overflow-add-used
+overflow-add-used c = let here = room c in search rules
 
-pub loop_q_preserved : goal.loop_q_preserved
-loop_q_preserved c =
+pub loop-q-preserved : goal.loop-q-preserved
+loop-q-preserved c =
     elim c.if-k-gt0.branch [
       | then-k-gt0 w ↦ rw (w.list-is, w.used-is)
           (row_pushed c.args.n c.args.classes.now c.args.left.now c.args.right.now c.args.p c.loop-q.q c.args.start _ c.loop-q.taken c.loop-q.have _ _ c.requires.row

@@ -4,8 +4,8 @@ use Rattle.crews.specs.declared.call.Call.TheVariants.{Count, Compare}
 use Rattle.crews.proofs.Replaying.{steps_named}
 use Rattle.crews.proofs.runs.answer.Goals as goal
 
-pub returns_in_Count : goal.returns_in_Count
-returns_in_Count g c =
+pub returns-in-Count : goal.returns-in-Count
+returns-in-Count g c =
     let b = c.args.bench.now in
     record {
       same = refl;
@@ -13,8 +13,8 @@ returns_in_Count g c =
           c.in-Count.is c.tokens.ensures c.count.ensures;
     }
 
-pub returns_in_Compare : goal.returns_in_Compare
-returns_in_Compare g c =
+pub returns-in-Compare : goal.returns-in-Compare
+returns-in-Compare g c =
     let b = c.args.bench.now in
     record {
       same = refl;

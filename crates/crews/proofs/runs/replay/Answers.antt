@@ -5,14 +5,14 @@ use Rattle.crews.specs.declared.call.Call.TheVariants.{Put}
 use Rattle.crews.proofs.Replaying.{going_none, going_more, going_all}
 use Rattle.crews.proofs.runs.replay.Goals as goal
 
-pub loop_i_init : goal.loop_i_init
-loop_i_init g c =
+pub loop-i-init : goal.loop-i-init
+loop-i-init g c =
     let b = c.new-bench.result in
     let shows = subst (λ x. Shows (g.N.Net.meaning x) b (nobody (g.N.Net.meaning x).places)) (sym c.new-bench.ensures.same) c.new-bench.ensures.shows in
     (refl, going_none (g.N.Net.meaning b.net) c.args.calls.now c.args.answers.now b shows)
 
-pub loop_i_preserved : goal.loop_i_preserved
-loop_i_preserved g c =
+pub loop-i-preserved : goal.loop-i-preserved
+loop-i-preserved g c =
     let inv = c.loop-i.invariant in
     let calls = c.args.calls.now in
     let extends = subst (λ x. Extends (g.N.Net.meaning x) c.loop-i.bench (get_or calls c.loop-i.i (Put 0 0 0)) c.perform.result c.perform.new.bench) inv.0 c.perform.ensures.extends in (

@@ -3,8 +3,8 @@ use Rattle.net.specs.Meaning.{transition}
 use Rattle.crews.proofs.Answering.{by_entry, differs_unfit, even_fits}
 use Rattle.crews.proofs.search.answering.Goals as goal
 
-pub next_preserved : goal.next_preserved
-next_preserved g c =
+pub next-preserved : goal.next-preserved
+next-preserved g c =
     let m = g.N.Net.meaning c.args.net.now in
     let cs = c.args.table.now.classes in
     let ours = by_entry m.places cs (transition m c.next.u).puts c.loop-class.class c.tokens-in.result c.tokens-in.ensures.counted in
@@ -12,8 +12,8 @@ next_preserved g c =
     below_more _ _ c.next.invariant
     (differs_unfit m cs c.args.crew.now c.args.t c.next.u c.loop-class.class (λ e. c.if-tokens-in.true (ours ∙ e ∙ sym theirs)))
 
-pub loop_class_preserved : goal.loop_class_preserved
-loop_class_preserved g c =
+pub loop-class-preserved : goal.loop-class-preserved
+loop-class-preserved g c =
     let m = g.N.Net.meaning c.args.net.now in
     let cs = c.args.table.now.classes in
     let ours = by_entry m.places cs (transition m c.next.u).puts c.loop-class.class c.tokens-in.result c.tokens-in.ensures.counted in

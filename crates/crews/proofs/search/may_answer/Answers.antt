@@ -1,13 +1,13 @@
 use Rattle.std.proofs.Common.{◌<◌, arith, rules}
 use Rattle.crews.proofs.search.may_answer.Goals as goal
 
-pub offset_bounds_crew_from : goal.offset_bounds_crew_from
-offset_bounds_crew_from g c =
+pub offset-bounds-crew-from : goal.offset-bounds-crew-from
+offset-bounds-crew-from g c =
     let law = g.N.Net.lawful c.args.net.now in
     let low : c.place-from.result < 128 = omega (arith, c.place-from.ensures, (law.each c.args.u c.requires.u-known).place_known, law.few_places) in
     search rules
 
-pub bounds_crew_from : goal.bounds_crew_from
-bounds_crew_from g c =
+pub bounds-crew-from : goal.bounds-crew-from
+bounds-crew-from g c =
     let law = g.N.Net.lawful c.args.net.now in
     omega (arith, c.place-from.ensures, (law.each c.args.u c.requires.u-known).place_known, law.few_places)

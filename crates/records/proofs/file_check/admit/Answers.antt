@@ -6,8 +6,8 @@ use Rattle.records.specs.Check.{admit}
 use Rattle.records.specs.EntryLaws.{reading_kind}
 use Rattle.records.proofs.file_check.admit.Goals as goal
 
-pub returns_in_2 : goal.returns_in_2
-returns_in_2 c =
+pub returns-in-2 : goal.returns-in-2
+returns-in-2 c =
     let b = c.args.bytes.now in
     let kind : at b 0 ≡ 2 = search rules in
     c.admit-transition.ensures

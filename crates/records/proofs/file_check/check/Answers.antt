@@ -8,25 +8,25 @@ use Rattle.records.proofs.CrewLaws.{measured}
 use Rattle.records.proofs.Verdicts.{means, reasons_rise}
 use Rattle.records.proofs.file_check.check.Goals as goal
 
-pub admit_requires : goal.admit_requires
-admit_requires c =
+pub admit-requires : goal.admit-requires
+admit-requires c =
     let few = few_to c.args.bytes.now c.loop-k.k c.loop-k.seen c.loop-k.invariant in
     (c.record_at.ensures.size, (few.few_left, few.few_right))
 
-pub loop_k_preserved : goal.loop_k_preserved
-loop_k_preserved c =
+pub loop-k-preserved : goal.loop-k-preserved
+loop-k-preserved c =
     let b = c.args.bytes.now in
     let k = c.loop-k.k in
     checked_to_more b k c.loop-k.seen c.record_at.result.now (Ok c.in-ok-seen.seen) c.loop-k.invariant c.record_at.ensures.value c.in-ok-seen.ensures
 
-pub returns_then_bytes_ne0 : goal.returns_then_bytes_ne0
-returns_then_bytes_ne0 c =
+pub returns-then-bytes-ne0 : goal.returns-then-bytes-ne0
+returns-then-bytes-ne0 c =
     let b = c.args.bytes.now in
     let is : Err c.at.result ≡ checked b = search rules in
     record { result = is; verdict = means b (Err c.at.result) is; crews = tt; order = λ k. reasons_rise (reading (record_at b k)) k (counts_of b k) }
 
-pub returns_in_err_seen : goal.returns_in_err_seen
-returns_in_err_seen c =
+pub returns-in-err-seen : goal.returns-in-err-seen
+returns-in-err-seen c =
     let p = err_from_is_err_and c.from-residual.result c.from-residual.ensures.1 in
     let b = c.args.bytes.now in
     let k = c.loop-k.k in

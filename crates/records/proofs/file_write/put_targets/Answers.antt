@@ -4,15 +4,15 @@ use Rattle.records.proofs.Spreads.{loop_room}
 use Rattle.records.proofs.Writes.{filled_more}
 use Rattle.records.proofs.file_write.put_targets.Goals as goal
 
-pub slice_bounds_fill_end : goal.slice_bounds_fill_end
-slice_bounds_fill_end g c =
+pub slice-bounds-fill-end : goal.slice-bounds-fill-end
+slice-bounds-fill-end g c =
     let m = g.N.Net.meaning c.args.net.now in
     let room : c.loop-p.used + c.tokens-count.result ≤ length c.args.targets.now =
     loop_room m (g.N.Net.lawful c.args.net.now) c.args.t c.loop-p.p c.places-p-end.result c.loop-p.used c.tokens-count.result (length c.args.targets.now) c.requires.0 c.requires.1 c.places-p-end.ensures c.loop-p-test.true c.loop-p.invariant.1 c.tokens-count.ensures in
     search rules
 
-pub loop_p_preserved : goal.loop_p_preserved
-loop_p_preserved g c =
+pub loop-p-preserved : goal.loop-p-preserved
+loop-p-preserved g c =
     let m = g.N.Net.meaning c.args.net.now in
     let used = c.loop-p.used in
     let count = c.tokens-count.result in

@@ -3,8 +3,8 @@ use Rattle.records.specs.Write.{records_of}
 use Rattle.records.proofs.Writes.{written_more, all_answer, all_after, all_same}
 use Rattle.records.proofs.file_write.write.Goals as goal
 
-pub loop_k_preserved : goal.loop_k_preserved
-loop_k_preserved g c =
+pub loop-k-preserved : goal.loop-k-preserved
+loop-k-preserved g c =
     let m = g.N.Net.meaning c.args.net.now in
     let k = c.loop-k.k in
     let less : k < records_of m = omega (arith, c.places.ensures, c.transitions.ensures, c.loop-k-test.true) in

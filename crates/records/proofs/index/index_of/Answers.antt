@@ -14,20 +14,20 @@ room c =
     let kind : at (record_at b k) 0 ≡ 2 = ap (λ r. at r 0) (sym c.record_at.ensures.value) ∙ c.if-record-at-eq-TRANSITION-KIND.true in
     (kind, omega (arith, c.loop-k.invariant.0, index_room b c.requires k c.loop-k-test.true kind))
 
-pub overflow_cast_starts : goal.overflow_cast_starts
-overflow_cast_starts c = let small = number_small c.args.bytes.now c.requires c.loop-k.k c.loop-k-test.true in search rules
+pub overflow-cast-starts : goal.overflow-cast-starts
+overflow-cast-starts c = let small = number_small c.args.bytes.now c.requires c.loop-k.k c.loop-k-test.true in search rules
 
-pub offset_bounds_starts_count : goal.offset_bounds_starts_count
-offset_bounds_starts_count c = let few : c.loop-k.count < 1024 = (room c).1 in search rules
+pub offset-bounds-starts-count : goal.offset-bounds-starts-count
+offset-bounds-starts-count c = let few : c.loop-k.count < 1024 = (room c).1 in search rules
 
-pub bounds_starts_count : goal.bounds_starts_count
-bounds_starts_count c = (room c).1
+pub bounds-starts-count : goal.bounds-starts-count
+bounds-starts-count c = (room c).1
 
-pub overflow_add_count : goal.overflow_add_count
-overflow_add_count c = let few : c.loop-k.count < 1024 = (room c).1 in search rules
+pub overflow-add-count : goal.overflow-add-count
+overflow-add-count c = let few : c.loop-k.count < 1024 = (room c).1 in search rules
 
-pub loop_k_preserved : goal.loop_k_preserved
-loop_k_preserved c =
+pub loop-k-preserved : goal.loop-k-preserved
+loop-k-preserved c =
     let b = c.args.bytes.now in
     let k = c.loop-k.k in
     let i = c.loop-k.invariant in

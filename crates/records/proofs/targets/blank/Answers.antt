@@ -4,14 +4,14 @@ use Rattle.std.proofs.lemmas.Bool.{and_left, eq-eqb, ne_eqb}
 use Rattle.records.specs.Entry.{blank}
 use Rattle.records.proofs.targets.blank.Goals as goal
 
-pub returns_then_t : goal.returns_then_t
-returns_then_t c =
+pub returns-then-t : goal.returns-then-t
+returns-then-t c =
     let ts = c.args.rest.now in
     let i = c.loop-t.t-index in
     sym (sym c.loop-t.invariant ∙ at_drop_more blank ts i 0 (search rules) ∙ and_left _ _ (ne_eqb (get_or ts i 0) 255 (search rules)))
 
-pub loop_t_preserved : goal.loop_t_preserved
-loop_t_preserved c =
+pub loop-t-preserved : goal.loop-t-preserved
+loop-t-preserved c =
     let ts = c.args.rest.now in
     let i = c.loop-t.t-index in
     sym (ap (λ v. v && blank (drop (i + 1) ts)) (eq-eqb (get_or ts i 0) 255 (search rules))) ∙ sym (at_drop_more blank ts i 0 (search rules)) ∙ c.loop-t.invariant

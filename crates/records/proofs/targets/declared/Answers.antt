@@ -4,15 +4,15 @@ use Rattle.std.proofs.lemmas.Bool.{and_left, le-ltb, lt-ltb}
 use Rattle.records.specs.Entry.{below}
 use Rattle.records.proofs.targets.declared.Goals as goal
 
-pub returns_then_t_places : goal.returns_then_t_places
-returns_then_t_places c =
+pub returns-then-t-places : goal.returns-then-t-places
+returns-then-t-places c =
     let n = c.args.places in
     let ts = c.args.targets.now in
     let i = c.loop-t.t-index in
     sym (sym c.loop-t.invariant ∙ at_drop_more (below n) ts i 0 (search rules) ∙ and_left _ _ (le-ltb (get_or ts i 0) n (search rules)))
 
-pub loop_t_preserved : goal.loop_t_preserved
-loop_t_preserved c =
+pub loop-t-preserved : goal.loop-t-preserved
+loop-t-preserved c =
     let n = c.args.places in
     let ts = c.args.targets.now in
     let i = c.loop-t.t-index in

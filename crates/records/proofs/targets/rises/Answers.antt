@@ -4,15 +4,15 @@ use Rattle.std.proofs.lemmas.Bool.{and_left, le-leb, lt-leb}
 use Rattle.records.specs.Entry.{rising}
 use Rattle.records.proofs.targets.rises.Goals as goal
 
-pub returns_then_t_last : goal.returns_then_t_last
-returns_then_t_last c =
+pub returns-then-t-last : goal.returns-then-t-last
+returns-then-t-last c =
     let ts = c.args.targets.now in
     let i = c.loop-t.t-index in
     let last = c.loop-t.last in
     sym (sym c.loop-t.invariant ∙ at_drop_more (rising last) ts i 0 (search rules) ∙ and_left _ _ (lt-leb last (get_or ts i 0) (search rules)))
 
-pub loop_t_preserved : goal.loop_t_preserved
-loop_t_preserved c =
+pub loop-t-preserved : goal.loop-t-preserved
+loop-t-preserved c =
     let ts = c.args.targets.now in
     let i = c.loop-t.t-index in
     let last = c.loop-t.last in

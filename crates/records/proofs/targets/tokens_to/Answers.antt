@@ -6,8 +6,8 @@ use Rattle.records.specs.File.{tokens_to}
 use Rattle.records.proofs.targets.tokens_to.Goals as goal
 use Rattle.records.proofs.targets.tokens_to.Goals.{then-t-p, else-t-p}
 
-pub loop_t_preserved : goal.loop_t_preserved
-loop_t_preserved c =
+pub loop-t-preserved : goal.loop-t-preserved
+loop-t-preserved c =
     let ts = c.args.targets.now in
     let i = c.loop-t.t-index in
     let p = c.args.p in

@@ -3,11 +3,11 @@ use Rattle.replay.specs.Texts.{swap_lines}
 use Rattle.replay.proofs.Lines.{lines_more}
 use Rattle.replay.proofs.texts.swap_lines.Goals as goal
 
-pub loop_swap_init : goal.loop_swap_init
-loop_swap_init c = c.in-ok-text.ensures.ok
+pub loop-swap-init : goal.loop-swap-init
+loop-swap-init c = c.in-ok-text.ensures.ok
 
-pub loop_swap_preserved : goal.loop_swap_preserved
-loop_swap_preserved c =
+pub loop-swap-preserved : goal.loop-swap-preserved
+loop-swap-preserved c =
     lines_more (codes "ALIKE") _ _ _ c.swaps-swap-items.result.now c.loop-swap.swap-index _ c.loop-swap-test.true c.loop-swap.invariant
     (c.as-str.ensures.value ∙ c.in-ok-entry.ensures) c.in-ok-push-str.ensures.bytes
 

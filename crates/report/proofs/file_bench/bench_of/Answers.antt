@@ -10,15 +10,15 @@ use Rattle.report.proofs.Filling.{crews_none, crews_same, crews_more}
 use Rattle.report.proofs.file_bench.bench_of.Goals as goal
 use Rattle.report.proofs.file_bench.bench_of.Goals.{in-Some, in-default}
 
-pub loop_k_init : goal.loop_k_init
-loop_k_init c =
+pub loop-k-init : goal.loop-k-init
+loop-k-init c =
     let bytes = c.new-net.result.bytes.now in
     let bench = c.new-bench.result in
     let empty = subst (Shows (net_of bytes) bench) (crews_none bytes) c.new-bench.ensures.shows in
     (c.new-bench.ensures.same, subst (λ (b : List ℕ). Shows (net_of b) bench (crews_after b 0)) c.new-net.ensures empty)
 
-pub loop_k_preserved : goal.loop_k_preserved
-loop_k_preserved c =
+pub loop-k-preserved : goal.loop-k-preserved
+loop-k-preserved c =
     let bytes = c.args.bytes.now in
     let k = c.loop-k.k in
     let inv = c.loop-k.invariant in

@@ -8,8 +8,8 @@ use Rattle.report.specs.Reports.{crews_of}
 use Rattle.report.proofs.Judging.{judges_refused, judges_compared}
 use Rattle.report.proofs.file_report.judge.Goals as goal
 
-pub returns_in_err_check : goal.returns_in_err_check
-returns_in_err_check c =
+pub returns-in-err-check : goal.returns-in-err-check
+returns-in-err-check c =
     let told = c.in-err-check.ensures in
     let p = err_from_is_err_and c.from-residual.result c.from-residual.ensures.1 in
     rw (p.1, p.2) (judges_refused c.args.bytes.now _ _ (omega arith) told.result told.verdict)

@@ -3,11 +3,11 @@ use Rattle.report.proofs.OneText.{one_text}
 use Rattle.report.proofs.Placing.{placed_front}
 use Rattle.report.proofs.file_report.report.Goals as goal
 
-pub returns_then_out_lt_REPORT_SIZE : goal.returns_then_out_lt_REPORT_SIZE
-returns_then_out_lt_REPORT_SIZE c = record { reported = record { first = inl (c.if-out-lt-REPORT-SIZE.true, sym c.plain.ensures); same = refl }; one = one_text }
+pub returns-then-out-lt-REPORT-SIZE : goal.returns-then-out-lt-REPORT-SIZE
+returns-then-out-lt-REPORT-SIZE c = record { reported = record { first = inl (c.if-out-lt-REPORT-SIZE.true, sym c.plain.ensures); same = refl }; one = one_text }
 
-pub put_judged_requires : goal.put_judged_requires
-put_judged_requires c = omega (arith, c.judge-judged.ensures.fits, c.if-out-lt-REPORT-SIZE.false)
+pub put-judged-requires : goal.put-judged-requires
+put-judged-requires c = omega (arith, c.judge-judged.ensures.fits, c.if-out-lt-REPORT-SIZE.false)
 
 pub returns : goal.returns
 returns c =

@@ -4,17 +4,17 @@ use Rattle.report.proofs.Lengths.{length_apart_text}
 use Rattle.report.proofs.Placing.{placed_append}
 use Rattle.report.proofs.lines.put_apart.Goals as goal
 
-pub put_field_at_requires : goal.put_field_at_requires
-put_field_at_requires c = omega (arith, c.requires, length_apart_text c.args.by, c.put-text-at.ensures.ends)
+pub put-field-at-requires : goal.put-field-at-requires
+put-field-at-requires c = omega (arith, c.requires, length_apart_text c.args.by, c.put-text-at.ensures.ends)
 
-pub put_field_at_requires_2 : goal.put_field_at_requires_2
-put_field_at_requires_2 c = omega (arith, c.requires, length_apart_text c.args.by, c.put-text-at.ensures.ends, c.put-field-at.ensures.ends)
+pub put-field-at-requires-2 : goal.put-field-at-requires-2
+put-field-at-requires-2 c = omega (arith, c.requires, length_apart_text c.args.by, c.put-text-at.ensures.ends, c.put-field-at.ensures.ends)
 
-pub put_field_at_requires_3 : goal.put_field_at_requires_3
-put_field_at_requires_3 c = omega (arith, c.requires, length_apart_text c.args.by, c.put-text-at.ensures.ends, c.put-field-at.ensures.ends, c.put-field-at-2.ensures.ends)
+pub put-field-at-requires-3 : goal.put-field-at-requires-3
+put-field-at-requires-3 c = omega (arith, c.requires, length_apart_text c.args.by, c.put-text-at.ensures.ends, c.put-field-at.ensures.ends, c.put-field-at-2.ensures.ends)
 
-pub end_line_requires : goal.end_line_requires
-end_line_requires c =
+pub end-line-requires : goal.end-line-requires
+end-line-requires c =
     omega (arith, c.requires, length_apart_text c.args.by, c.put-text-at.ensures.ends, c.put-field-at.ensures.ends, c.put-field-at-2.ensures.ends, c.put-field-at-3.ensures.ends)
 
 pub returns : goal.returns

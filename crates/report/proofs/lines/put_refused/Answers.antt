@@ -5,15 +5,15 @@ use Rattle.report.proofs.Lengths.{length_refused_text}
 use Rattle.report.proofs.Placing.{placed_append, placed_as}
 use Rattle.report.proofs.lines.put_refused.Goals as goal
 
-pub put_field_at_requires : goal.put_field_at_requires
-put_field_at_requires c = omega (arith, c.requires, length_refused_text c.args.fault, ap (λ n. length (field n)) c.number.ensures, c.put-text-at.ensures.ends)
+pub put-field-at-requires : goal.put-field-at-requires
+put-field-at-requires c = omega (arith, c.requires, length_refused_text c.args.fault, ap (λ n. length (field n)) c.number.ensures, c.put-text-at.ensures.ends)
 
-pub put_spot_at_requires : goal.put_spot_at_requires
-put_spot_at_requires c =
+pub put-spot-at-requires : goal.put-spot-at-requires
+put-spot-at-requires c =
     omega (arith, c.requires, length_refused_text c.args.fault, ap (λ n. length (field n)) c.number.ensures, c.put-text-at.ensures.ends, c.put-field-at.ensures.ends)
 
-pub end_line_requires : goal.end_line_requires
-end_line_requires c =
+pub end-line-requires : goal.end-line-requires
+end-line-requires c =
     omega (arith, c.requires, length_refused_text c.args.fault, ap (λ n. length (field n)) c.number.ensures, c.put-text-at.ensures.ends, c.put-field-at.ensures.ends, c.put-spot-at.ensures.ends)
 
 pub returns : goal.returns

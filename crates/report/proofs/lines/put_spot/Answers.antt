@@ -3,5 +3,5 @@ use Rattle.report.specs.Text.{spot_field}
 use Rattle.report.proofs.Placing.{placed_as, placed_none}
 use Rattle.report.proofs.lines.put_spot.Goals as goal
 
-pub returns_in_None : goal.returns_in_None
-returns_in_None c = placed_as (ap spot_field (sym c.in-None.is)) (placed_none c.args.at c.args.out.now)
+pub returns-in-None : goal.returns-in-None
+returns-in-None c = placed_as (ap spot_field (sym c.in-None.is)) (placed_none c.args.at c.args.out.now)

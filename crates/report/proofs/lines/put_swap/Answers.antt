@@ -4,17 +4,17 @@ use Rattle.report.proofs.Lengths.{length_swap_line}
 use Rattle.report.proofs.Placing.{placed_append}
 use Rattle.report.proofs.lines.put_swap.Goals as goal
 
-pub put_number_at_requires : goal.put_number_at_requires
-put_number_at_requires c = omega (arith, c.requires, length_swap_line c.args.swap)
+pub put-number-at-requires : goal.put-number-at-requires
+put-number-at-requires c = omega (arith, c.requires, length_swap_line c.args.swap)
 
-pub put_field_at_requires : goal.put_field_at_requires
-put_field_at_requires c = omega (arith, c.requires, length_swap_line c.args.swap, c.put-number-at.ensures.ends)
+pub put-field-at-requires : goal.put-field-at-requires
+put-field-at-requires c = omega (arith, c.requires, length_swap_line c.args.swap, c.put-number-at.ensures.ends)
 
-pub put_field_at_requires_2 : goal.put_field_at_requires_2
-put_field_at_requires_2 c = omega (arith, c.requires, length_swap_line c.args.swap, c.put-number-at.ensures.ends, c.put-field-at.ensures.ends)
+pub put-field-at-requires-2 : goal.put-field-at-requires-2
+put-field-at-requires-2 c = omega (arith, c.requires, length_swap_line c.args.swap, c.put-number-at.ensures.ends, c.put-field-at.ensures.ends)
 
-pub end_line_requires : goal.end_line_requires
-end_line_requires c = omega (arith, c.requires, length_swap_line c.args.swap, c.put-number-at.ensures.ends, c.put-field-at.ensures.ends, c.put-field-at-2.ensures.ends)
+pub end-line-requires : goal.end-line-requires
+end-line-requires c = omega (arith, c.requires, length_swap_line c.args.swap, c.put-number-at.ensures.ends, c.put-field-at.ensures.ends, c.put-field-at-2.ensures.ends)
 
 pub returns : goal.returns
 returns c =

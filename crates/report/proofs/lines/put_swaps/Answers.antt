@@ -5,15 +5,15 @@ use Rattle.report.proofs.Lengths.{swap_lines_more, swap_room}
 use Rattle.report.proofs.Placing.{placed_append, placed_as, placed_none}
 use Rattle.report.proofs.lines.put_swaps.Goals as goal
 
-pub loop_swap_init : goal.loop_swap_init
-loop_swap_init c = placed_none c.args.start c.args.out.now
+pub loop-swap-init : goal.loop-swap-init
+loop-swap-init c = placed_none c.args.start c.args.out.now
 
-pub put_swap_at_requires : goal.put_swap_at_requires
-put_swap_at_requires c =
+pub put-swap-at-requires : goal.put-swap-at-requires
+put-swap-at-requires c =
     swap_room c.args.list.now c.loop-swap.swap-index _ c.args.start c.loop-swap.at _ (omega arith) (omega (arith, c.requires)) c.loop-swap.invariant.ends
 
-pub loop_swap_preserved : goal.loop_swap_preserved
-loop_swap_preserved c =
+pub loop-swap-preserved : goal.loop-swap-preserved
+loop-swap-preserved c =
     let xs = c.args.list.now in
     let i = c.loop-swap.swap-index in
     placed_as (sym (swap_lines_more xs i _ (omega arith)))

@@ -3,25 +3,25 @@ use Rattle.std.proofs.lemmas.Fmt.{decimal_digit, decimal_step}
 use Rattle.report.proofs.Placing.{placed_append, placed_as}
 use Rattle.report.proofs.writing.+put_number.Goals as goal
 
-pub put_digit_requires : goal.put_digit_requires
-put_digit_requires t c =
+pub put-digit-requires : goal.put-digit-requires
+put-digit-requires t c =
     let small : c.args.n < 10 = omega arith in
     let one : length (decimal c.args.n) ≡ 1 = ap length (decimal_digit c.args.n small) in
     (small, omega (arith, c.requires, one))
 
-pub returns_then_n_lt10 : goal.returns_then_n_lt10
-returns_then_n_lt10 t c =
+pub returns-then-n-lt10 : goal.returns-then-n-lt10
+returns-then-n-lt10 t c =
     let small : c.args.n < 10 = omega arith in
     placed_as (sym (decimal_digit c.args.n small)) c.put-digit.ensures
 
-pub put_number_last_requires : goal.put_number_last_requires
-put_number_last_requires t c =
+pub put-number-last-requires : goal.put-number-last-requires
+put-number-last-requires t c =
     let n = c.args.n in
     let step : length (decimal n) ≡ length (decimal (n / 10) ++ (48 + n % 10) ∷ []) = ap length (decimal_step n c.if-n-lt10.false (omega arith)) in
     (search rules, omega (arith, c.requires, step, length-append (decimal (n / 10)) ((48 + n % 10) ∷ [])))
 
-pub put_digit_requires_2 : goal.put_digit_requires_2
-put_digit_requires_2 t c =
+pub put-digit-requires-2 : goal.put-digit-requires-2
+put-digit-requires-2 t c =
     let n = c.args.n in
     let step : length (decimal n) ≡ length (decimal (n / 10) ++ (48 + n % 10) ∷ []) = ap length (decimal_step n c.if-n-lt10.false (omega arith)) in
     (omega arith, omega (arith, c.requires, step, length-append (decimal (n / 10)) ((48 + n % 10) ∷ []), c.put-number-last.ensures.ends))

@@ -3,11 +3,11 @@ use Rattle.classing.proofs.Writes.{write_more}
 use Rattle.sheets.specs.Cuts.{MovedTo}
 use Rattle.sheets.proofs.cut.part.Goals as goal
 
-pub loop_q_init : goal.loop_q_init
-loop_q_init c = (search rules, λ p l. absurd (omega arith), λ p _. refl)
+pub loop-q-init : goal.loop-q-init
+loop-q-init c = (search rules, λ p l. absurd (omega arith), λ p _. refl)
 
-pub loop_q_preserved : goal.loop_q_preserved
-loop_q_preserved c = (
+pub loop-q-preserved : goal.loop-q-preserved
+loop-q-preserved c = (
   length-set c.loop-q.parted.lines c.loop-q.q c.moved-to.result ∙ c.loop-q.invariant.0,
   write_more (λ p x. MovedTo c.args.snapshot.now c.args.blocks.now.lines c.args.line.now c.args.block c.args.k p x) c.loop-q.parted.lines c.loop-q.q c.moved-to.result 0
       (omega (arith, c.loop-q.invariant.0, c.requires.sound.few_places)) c.loop-q.invariant.1 c.moved-to.ensures,

@@ -3,5 +3,5 @@ use Rattle.std.proofs.lemmas.Bool.Decides.{nat_tests}
 use Rattle.team.proofs.Sums.{tally_next}
 use Rattle.sheets.proofs.does.total_of.Goals as goal
 
-pub loop_j_preserved : goal.loop_j_preserved
-loop_j_preserved c = grind (arith, tally_next, nat_tests)
+pub loop-j-preserved : goal.loop-j-preserved
+loop-j-preserved c = grind (arith, tally_next, nat_tests)

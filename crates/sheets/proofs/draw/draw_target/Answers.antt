@@ -2,12 +2,12 @@ use Rattle.std.proofs.Common.{get_or, ap, ◌∙◌, arith}
 use Rattle.sheets.proofs.Draws.{draws_skip, draws_more}
 use Rattle.sheets.proofs.draw.draw_target.Goals as goal
 
-pub returns_then_target_ge_MOST_PLACES : goal.returns_then_target_ge_MOST_PLACES
-returns_then_target_ge_MOST_PLACES c =
+pub returns-then-target-ge-MOST-PLACES : goal.returns-then-target-ge-MOST-PLACES
+returns-then-target-ge-MOST-PLACES c =
     draws_skip c.args.blocks.now.lines c.args.this.now c.args.j c.args.line.now c.requires.begun (λ l. absurd (omega arith))
 
-pub returns_then_names : goal.returns_then_names
-returns_then_names c =
+pub returns-then-names : goal.returns-then-names
+returns-then-names c =
     let (k, l, e) = c.names.ensures.0 c.if-names.true in
     draws_skip c.args.blocks.now.lines c.args.this.now c.args.j c.args.line.now c.requires.begun
     (λ _. (k, l, e ∙ ap (λ i. get_or c.args.blocks.now.lines i 0) c.from-target.ensures))

@@ -8,12 +8,12 @@ use Rattle.classing.proofs.Turning.{holds_low, holds_more, turn_tells}
 use Rattle.classing.proofs.refine.Partition.of.Given as given
 use Rattle.classing.proofs.refine.Partition.of.Goals as goal
 
-pub stages_init : goal.stages_init
-stages_init g c =
+pub stages-init : goal.stages-init
+stages-init g c =
     (holds_none (g.N.Net.meaning c.args.net.now) c.start-table.result.classes (λ p _. c.start-table.ensures p), λ i l. absurd (omega arith))
 
-pub refined_requires : goal.refined_requires
-refined_requires g c =
+pub refined-requires : goal.refined-requires
+refined-requires g c =
     let m = g.N.Net.meaning c.args.net.now in
     record { sound = c.of-snapshot.ensures.sound; low = λ q l. holds_low m c.stages.rounds c.stages.table.classes c.stages.invariant.0 q (omega (arith, c.of-snapshot.ensures.all_places)) }
 
@@ -39,17 +39,17 @@ module _ (g : given.Over) (c : goal.Else-agrees g) where
       let m = g.N.Net.meaning c.args.net.now in
       omega (arith, rounds_left m (c.stages.rounds + 1) unstable, rounds_most m)
 
-pub overflow_add_rounds : goal.overflow_add_rounds
-overflow_add_rounds g c = let small = (g.N.Net.lawful c.args.net.now).few_places in omega (arith, few g c)
+pub overflow-add-rounds : goal.overflow-add-rounds
+overflow-add-rounds g c = let small = (g.N.Net.lawful c.args.net.now).few_places in omega (arith, few g c)
 
-pub stages_smaller : goal.stages_smaller
-stages_smaller g c = omega (arith, few g c)
+pub stages-smaller : goal.stages-smaller
+stages-smaller g c = omega (arith, few g c)
 
-pub stages_preserved : goal.stages_preserved
-stages_preserved g c = (next_holds g c, unstable g c)
+pub stages-preserved : goal.stages-preserved
+stages-preserved g c = (next_holds g c, unstable g c)
 
-pub returns_then_agrees : goal.returns_then_agrees
-returns_then_agrees g c =
+pub returns-then-agrees : goal.returns-then-agrees
+returns-then-agrees g c =
     let m = g.N.Net.meaning c.args.net.now in
     let law = g.N.Net.lawful c.args.net.now in
     let tells = turn_tells m c.of-snapshot.result c.of-snapshot.ensures law.few_places c.stages.rounds

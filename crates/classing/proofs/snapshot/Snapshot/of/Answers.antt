@@ -5,19 +5,19 @@ use Rattle.classing.specs.Snapshots.{Keeps, no_move, place_at}
 use Rattle.classing.proofs.Writes.{write_more}
 use Rattle.classing.proofs.snapshot.Snapshot.of.Goals as goal
 
-pub loop_t_init : goal.loop_t_init
-loop_t_init g c = (refl, λ k l. absurd (omega arith))
+pub loop-t-init : goal.loop-t-init
+loop-t-init g c = (refl, λ k l. absurd (omega arith))
 
-pub loop_t_preserved : goal.loop_t_preserved
-loop_t_preserved g c =
+pub loop-t-preserved : goal.loop-t-preserved
+loop-t-preserved g c =
     let m = g.N.Net.meaning c.args.net.now in
     let few = (g.N.Net.lawful c.args.net.now).few_transitions in (
       length-set c.loop-t.moves c.loop-t.t c.ask.result ∙ c.loop-t.invariant.0,
       write_more (λ k x. Keeps m.places (transition m k) x) c.loop-t.moves c.loop-t.t c.ask.result no_move (omega (arith, c.loop-t.invariant.0)) c.loop-t.invariant.1 c.ask.ensures,
     )
 
-pub link_requires : goal.link_requires
-link_requires g c =
+pub link-requires : goal.link-requires
+link-requires g c =
     let m = g.N.Net.meaning c.args.net.now in
     let law = g.N.Net.lawful c.args.net.now in
     record {

@@ -4,8 +4,8 @@ use Rattle.crews.specs.declared.call.Call.TheVariants.{Count}
 use Rattle.crews.proofs.Steps.{unknown_steps, count_steps}
 use Rattle.crews.proofs.bench.Bench.count.Goals as goal
 
-pub returns_in_err_knows_place : goal.returns_in_err_knows_place
-returns_in_err_knows_place g c =
+pub returns-in-err-knows-place : goal.returns-in-err-knows-place
+returns-in-err-knows-place g c =
     let b = c.args.self.now in
     let m = g.N.Net.meaning b.net in
     let p = err_from_is_err_and c.from-residual.result c.from-residual.ensures.1 in

@@ -8,8 +8,8 @@ use Rattle.crews.proofs.Steps.{not_ready_steps, fire_crowded, fire_steps, sum_re
 use Rattle.crews.proofs.Tables.{with_table_net}
 use Rattle.crews.proofs.bench.Bench.fire.Goals as goal
 
-pub returns_in_err_crew : goal.returns_in_err_crew
-returns_in_err_crew g c =
+pub returns-in-err-crew : goal.returns-in-err-crew
+returns-in-err-crew g c =
     let b = c.args.self.now in
     let m = g.N.Net.meaning b.net in
     let s = c.args.side in
@@ -17,8 +17,8 @@ returns_in_err_crew g c =
     let p = err_from_is_err_and c.from-residual.result c.from-residual.ensures.1 in
     rw (p.1, p.2) (record { same = refl; steps = not_ready_steps m b (Fire s t) s t (λ x. crowded (fired m t (on_side x s))) _ (λ x. refl) c.in-err-crew.ensures })
 
-pub returns_then_from_room : goal.returns_then_from_room
-returns_then_from_room g c =
+pub returns-then-from-room : goal.returns-then-from-room
+returns-then-from-room g c =
     let b = c.args.self.now in
     let m = g.N.Net.meaning b.net in
     let law = g.N.Net.lawful b.net in
@@ -32,8 +32,8 @@ returns_then_from_room g c =
           (omega (arith, all, c.if-from-room.true, c.room.ensures, c.total.ensures, c.from.ensures));
     }
 
-pub fire_requires : goal.fire_requires
-fire_requires g c =
+pub fire-requires : goal.fire-requires
+fire-requires g c =
     let b = c.args.self.now in
     let m = g.N.Net.meaning b.net in
     let y = c.in-ok-crew.crew in

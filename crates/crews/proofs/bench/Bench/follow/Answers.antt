@@ -9,8 +9,8 @@ use Rattle.crews.proofs.Steps.{not_ready_steps, sum_ready}
 use Rattle.crews.proofs.bench.Bench.follow.Goals as goal
 use Rattle.crews.proofs.bench.Bench.follow.Goals.{then-total-room-via-then-total-room, then-total-room-via-else-total-room+then-total-room-2}
 
-pub returns_in_err_crew : goal.returns_in_err_crew
-returns_in_err_crew g c =
+pub returns-in-err-crew : goal.returns-in-err-crew
+returns-in-err-crew g c =
     let b = c.args.self.now in
     let m = g.N.Net.meaning b.net in
     let s = c.args.side in
@@ -18,8 +18,8 @@ returns_in_err_crew g c =
     let p = err_from_is_err_and c.from-residual.result c.from-residual.ensures.1 in
     rw (p.1, p.2) (record { same = refl; steps = not_ready_steps m b (Follow s t) s t (λ x. unlike m x ++ overfull m x s t) _ (λ x. refl) c.in-err-crew.ensures })
 
-pub returns_then_is_some : goal.returns_then_is_some
-returns_then_is_some g c =
+pub returns-then-is-some : goal.returns-then-is-some
+returns-then-is-some g c =
     let b = c.args.self.now in
     let m = g.N.Net.meaning b.net in
     let cs = c.class-table-table.result.classes in
@@ -31,8 +31,8 @@ returns_then_is_some g c =
           c.plain.result c.plain.ensures;
     }
 
-pub answering_answer_requires : goal.answering_answer_requires
-answering_answer_requires g c =
+pub answering-answer-requires : goal.answering-answer-requires
+answering-answer-requires g c =
     let b = c.args.self.now in
     let m = g.N.Net.meaning b.net in
     let law = g.N.Net.lawful b.net in
@@ -47,8 +47,8 @@ answering_answer_requires g c =
           (search rules) (search rules);
     }
 
-pub fire_requires : goal.fire_requires
-fire_requires g c =
+pub fire-requires : goal.fire-requires
+fire-requires g c =
     let b = c.args.self.now in
     let m = g.N.Net.meaning b.net in
     let y = c.in-ok-crew.crew in
@@ -57,8 +57,8 @@ fire_requires g c =
     let all = sum_ready m b c.args.side c.args.transition y (g.N.Net.lawful b.net) ready whole in
     record { known = ready.known; there = ready.token; fits = omega (arith, all, c.if-total-room.false, c.room.ensures, c.total.ensures, c.from-total.ensures) }
 
-pub fire_requires_2 : goal.fire_requires_2
-fire_requires_2 g c =
+pub fire-requires-2 : goal.fire-requires-2
+fire-requires-2 g c =
     let b = c.args.self.now in
     let m = g.N.Net.meaning b.net in
     let law = g.N.Net.lawful b.net in
@@ -92,8 +92,8 @@ returns g c =
           (omega (arith, all, c.if-total-room.false, c.room.ensures, c.total.ensures, c.from-total.ensures));
     }
 
-pub returns_then_total_room : goal.returns_then_total_room
-returns_then_total_room g c =
+pub returns-then-total-room : goal.returns-then-total-room
+returns-then-total-room g c =
     let b = c.args.self.now in
     let m = g.N.Net.meaning b.net in
     let law = g.N.Net.lawful b.net in

@@ -8,8 +8,8 @@ use Rattle.crews.proofs.Steps.{unknown_steps, put_refused, put_steps}
 use Rattle.crews.proofs.Tables.{with_table_net}
 use Rattle.crews.proofs.bench.Bench.put.Goals as goal
 
-pub returns_in_err_knows_place : goal.returns_in_err_knows_place
-returns_in_err_knows_place g c =
+pub returns-in-err-knows-place : goal.returns-in-err-knows-place
+returns-in-err-knows-place g c =
     let b = c.args.self.now in
     let m = g.N.Net.meaning b.net in
     let s = c.args.side in
@@ -18,8 +18,8 @@ returns_in_err_knows_place g c =
     let p = err_from_is_err_and c.from-residual.result c.from-residual.ensures.1 in
     rw (p.1, p.2) (record { same = refl; steps = unknown_steps m b (Put s i k) m.places s i (λ x. crowded (more (on_side x s) i k)) _ (λ x. refl) c.in-err-knows-place.ensures })
 
-pub returns_then_count_room : goal.returns_then_count_room
-returns_then_count_room g c =
+pub returns-then-count-room : goal.returns-then-count-room
+returns-then-count-room g c =
     let b = c.args.self.now in
     record {
       same = refl;

@@ -3,14 +3,14 @@ use Rattle.net.specs.Meaning.{transition, count_of}
 use Rattle.crews.proofs.Steps.{lacking_first}
 use Rattle.crews.proofs.bench.Bench.ready.Goals as goal
 
-pub at_requires : goal.at_requires
-at_requires g c =
+pub at-requires : goal.at-requires
+at-requires g c =
     let law = g.N.Net.lawful c.args.self.now.net in
     let known : c.args.transition < count_of (g.N.Net.meaning c.args.self.now.net) = omega (arith, c.in-ok-knows-transition.ensures.1.0) in
     omega (arith, c.place.ensures, (law.each c.args.transition known).place_known, law.few_places)
 
-pub returns_then_at_lt1 : goal.returns_then_at_lt1
-returns_then_at_lt1 g c =
+pub returns-then-at-lt1 : goal.returns-then-at-lt1
+returns-then-at-lt1 g c =
     let b = c.args.self.now in
     let m = g.N.Net.meaning b.net in
     let ys = c.crew-crew.result.counts in

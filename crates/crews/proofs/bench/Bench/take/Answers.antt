@@ -7,8 +7,8 @@ use Rattle.crews.proofs.Steps.{unknown_steps, take_refused, take_steps}
 use Rattle.crews.proofs.Tables.{with_table_net}
 use Rattle.crews.proofs.bench.Bench.take.Goals as goal
 
-pub returns_in_err_knows_place : goal.returns_in_err_knows_place
-returns_in_err_knows_place g c =
+pub returns-in-err-knows-place : goal.returns-in-err-knows-place
+returns-in-err-knows-place g c =
     let b = c.args.self.now in
     let m = g.N.Net.meaning b.net in
     let s = c.args.side in
@@ -17,8 +17,8 @@ returns_in_err_knows_place g c =
     let p = err_from_is_err_and c.from-residual.result c.from-residual.ensures.1 in
     rw (p.1, p.2) (record { same = refl; steps = unknown_steps m b (Take s i k) m.places s i (λ x. lacking (on_side x s) i k) _ (λ x. refl) c.in-err-knows-place.ensures })
 
-pub returns_then_count_from : goal.returns_then_count_from
-returns_then_count_from g c =
+pub returns-then-count-from : goal.returns-then-count-from
+returns-then-count-from g c =
     let b = c.args.self.now in
     record {
       same = refl;

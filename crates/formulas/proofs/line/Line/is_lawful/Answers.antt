@@ -4,19 +4,19 @@ use Rattle.std.proofs.lemmas.Bool.{both_ways}
 use Rattle.formulas.proofs.Lawful.{pair_like, like_pair, pairs_more}
 use Rattle.formulas.proofs.line.Line.is_lawful.Goals as goal
 
-pub returns_then_not_has_lawful_head : goal.returns_then_not_has_lawful_head
-returns_then_not_has_lawful_head c =
+pub returns-then-not-has-lawful-head : goal.returns-then-not-has-lawful-head
+returns-then-not-has-lawful-head c =
     (λ e. absurd (both_ways _ refl e), λ law. absurd (not_from_Decides _ c.has-lawful-head.ensures c.if-not-has-lawful-head.true law.head))
 
-pub returns_then_not_is_lawful_pair : goal.returns_then_not_is_lawful_pair
-returns_then_not_is_lawful_pair c = (
+pub returns-then-not-is-lawful-pair : goal.returns-then-not-is-lawful-pair
+returns-then-not-is-lawful-pair c = (
   λ e. absurd (both_ways _ refl e),
   λ law. absurd (not_from_Decides _ c.is-lawful-pair.ensures c.if-not-is-lawful-pair.true
       (like_pair c.args.at c.args.self.now _ _ c.loop-k.k c.named-pairs-used.ensures c.modal-only-most.ensures (law.each_pair c.loop-k.k (omega arith)))),
 )
 
-pub loop_k_preserved : goal.loop_k_preserved
-loop_k_preserved c =
+pub loop-k-preserved : goal.loop-k-preserved
+loop-k-preserved c =
     pairs_more c.args.at c.args.self.now c.loop-k.k c.loop-k.invariant
     (pair_like c.args.at c.args.self.now _ _ c.loop-k.k c.named-pairs-used.ensures c.modal-only-most.ensures
     (c.is-lawful-pair.ensures.0 c.if-not-is-lawful-pair.false))

@@ -12,11 +12,11 @@ overflow-add-result g c =
     let known = (right.each (c.args.t - c.in-Some.at.transitions) (search rules)).place_known in
     search rules
 
-pub returns_then_t_at : goal.returns_then_t_at
-returns_then_t_at g c = search (rules, join_answers)
+pub returns-then-t-at : goal.returns-then-t-at
+returns-then-t-at g c = search (rules, join_answers)
 
-pub returns_then_t_at_2 : goal.returns_then_t_at_2
-returns_then_t_at_2 g c = search (rules, join_answers)
+pub returns-then-t-at-2 : goal.returns-then-t-at-2
+returns-then-t-at-2 g c = search (rules, join_answers)
 
-pub returns_else_t_at_2 : goal.returns_else_t_at_2
-returns_else_t_at_2 g c = search (rules, join_answers)
+pub returns-else-t-at-2 : goal.returns-else-t-at-2
+returns-else-t-at-2 g c = search (rules, join_answers)

@@ -2,11 +2,11 @@ use Rattle.std.proofs.Common.{rules}
 use Rattle.net.specs.RingLaws.{ring_answers}
 use Rattle.net.proofs.ring.RingNet.tokens.Goals as goal
 
-pub returns_then_t_self : goal.returns_then_t_self
-returns_then_t_self c = search (rules, ring_answers)
+pub returns-then-t-self : goal.returns-then-t-self
+returns-then-t-self c = search (rules, ring_answers)
 
-pub returns_then_p_t : goal.returns_then_p_t
-returns_then_p_t c = search (rules, ring_answers)
+pub returns-then-p-t : goal.returns-then-p-t
+returns-then-p-t c = search (rules, ring_answers)
 
-pub returns_else_p_t : goal.returns_else_p_t
-returns_else_p_t c = search (rules, ring_answers)
+pub returns-else-p-t : goal.returns-else-p-t
+returns-else-p-t c = search (rules, ring_answers)

@@ -2,8 +2,8 @@ use Rattle.std.proofs.Common.{sym, subst, rules}
 use Rattle.records.specs.FileLaws.{Tells, start_inside, start_tells}
 use Rattle.records.proofs.file_net.FileNet.found.Goals as goal
 
-pub record_at_requires : goal.record_at_requires
-record_at_requires c = let s = c.args.self.now in start_inside s.bytes.now s.starts s.count c.args.t s.tied (search rules) (search rules)
+pub record-at-requires : goal.record-at-requires
+record-at-requires c = let s = c.args.self.now in start_inside s.bytes.now s.starts s.count c.args.t s.tied (search rules) (search rules)
 
 pub returns : goal.returns
 returns c =

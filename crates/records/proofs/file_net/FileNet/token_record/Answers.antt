@@ -6,8 +6,8 @@ use Rattle.records.specs.Layout.{record_at}
 use Rattle.records.proofs.CrewLaws.{put_of, token_in, token_out}
 use Rattle.records.proofs.file_net.FileNet.token_record.Goals as goal
 
-pub returns_then_k_self : goal.returns_then_k_self
-returns_then_k_self c =
+pub returns-then-k-self : goal.returns-then-k-self
+returns-then-k-self c =
     let s = c.args.self.now in
     let past : admitted_records s.bytes.now ≤ c.args.k = search rules in
     record { value = token_out s.bytes.now c.args.k past; crews = λ h. absurd (omega arith) }
