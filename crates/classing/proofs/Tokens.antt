@@ -14,4 +14,4 @@ class_tokens m law cs C xs c class l e =
     tally_cong m.places (λ p. cond (eqb (get_or cs p 0) class) (get_or xs p 0) 0) (λ p. cond (alike m c p) (get_or xs p 0) 0)
     (λ p k. ap (λ b. cond b (get_or xs p 0) 0)
     (same_from_decides (eqb (get_or cs p 0) class) (alike m c p) (Decides-eqb (get_or cs p 0) class)
-    (Decides-like (alike m c p) (λ b. sym ((C.same_Class c p l k).1 b) ∙ sym e) (λ s. (C.same_Class c p l k).0 (sym e ∙ sym s)) (alike_decides m law c p l k))))
+    (Decides-like (alike m c p) (λ b. sym ((C.same_class c p l k).1 b) ∙ sym e) (λ s. (C.same_class c p l k).0 (sym e ∙ sym s)) (alike_decides m law c p l k))))

@@ -48,7 +48,7 @@ fn describe(this: &Move, table: &ClassTable, profile: &mut Profile)
     for j in 0..WIDTH {
         profile.classes[j] = class_at(table, this.targets[j]);
     }
-    profile.classes.sort();
+    profile.classes.sort_unstable();
 }
 
 // Writes the profile of each move.

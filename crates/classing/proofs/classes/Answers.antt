@@ -16,6 +16,6 @@ returns g c =
         classes = holds_classes m law c.write.new.list holds;
         written = written_whole (class_of m) m.places c.args.list.now c.write.new.list (omega arith) (omega arith) holds
             (λ p l. c.write.ensures.kept p (omega (arith, c.places-n.ensures)));
-        after-rounds = c.of-partition.ensures.rounds;
+        after_rounds = c.of-partition.ensures.rounds;
       },
     )

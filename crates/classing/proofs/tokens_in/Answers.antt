@@ -17,5 +17,5 @@ returns g c =
     c.loop-p.invariant.0 ∙ ap (λ n. tally n (λ p. cond (eqb (get_or c.args.table.now.classes p 0) c.args.class) (tokens_on (transition m c.args.t) p) 0)) all in
     record {
       counted = sum;
-      in-class = λ classed k l e. sum ∙ class_tokens m (g.N.Net.lawful c.args.net.now) c.args.table.now.classes classed (transition m c.args.t).puts k c.args.class l e;
+      in_class = λ classed k l e. sum ∙ class_tokens m (g.N.Net.lawful c.args.net.now) c.args.table.now.classes classed (transition m c.args.t).puts k c.args.class l e;
     }

@@ -6,11 +6,11 @@ use Rattle.classing.proofs.profile.describe.Goals as goal
 
 pub returns : goal.returns
 returns c =
-    let long = c.sort.ensures.len ∙ c.loop-j.invariant.1 in
+    let long = c.sort_unstable.ensures.len ∙ c.loop-j.invariant.1 in
     record {
       labelled = c.loop-j.invariant.0;
       wide = long;
-      rising = IsNonDecreasingBy-from_sort (λ x. x) c.sort.new.self c.sort.ensures.sorted;
-      counts = sorted_counts most_total c.args.table.now.classes c.args.this.now.targets c.loop-j.profile.classes c.sort.new.self c.loop-j.invariant.1 long
-          (λ j l. c.loop-j.invariant.2 j (omega arith)) c.sort.ensures.permutation;
+      rising = IsNonDecreasingBy-from_sort (λ x. x) c.sort_unstable.new.self c.sort_unstable.ensures.sorted;
+      counts = sorted_counts most_total c.args.table.now.classes c.args.this.now.targets c.loop-j.profile.classes c.sort_unstable.new.self c.loop-j.invariant.1 long
+          (λ j l. c.loop-j.invariant.2 j (omega arith)) c.sort_unstable.ensures.permutation;
     }

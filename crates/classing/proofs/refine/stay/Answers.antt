@@ -1,12 +1,12 @@
 use Rattle.std.proofs.Common.{arith}
 use Rattle.classing.proofs.refine.stay.Goals as goal
 
-pub returns-then-is-covered : goal.returns-then-is-covered
-returns-then-is-covered c = (
+pub returns-then-is_covered : goal.returns-then-is_covered
+returns-then-is_covered c = (
   λ r. record {
     before = omega arith;
-    forth = c.is-covered.ensures.0 c.if-is-covered.true;
-    back = c.is-covered-then-is-covered.ensures.0 r;
+    forth = c.is_covered.ensures.0 c.if-is_covered.true;
+    back = c.is_covered-then-is_covered.ensures.0 r;
   },
-  λ y. c.is-covered-then-is-covered.ensures.1 y.back,
+  λ y. c.is_covered-then-is_covered.ensures.1 y.back,
 )

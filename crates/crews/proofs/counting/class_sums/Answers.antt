@@ -5,8 +5,8 @@ use Rattle.crews.proofs.counting.class_sums.Goals as goal
 pub loop-p-init : goal.loop-p-init
 loop-p-init c = sums_none c.args.classes.now c.args.counts.now _ refl
 
-pub overflow-add-sums : goal.overflow-add-sums
-overflow-add-sums c =
+pub overflow_add-sums : goal.overflow_add-sums
+overflow_add-sums c =
     let known : c.from-class.result < 128 = omega (arith, c.from-class.ensures, c.requires.named c.loop-p.p c.loop-p-test.true) in
     let small : get_or c.loop-p.sums c.from-class.result 0 + get_or c.args.counts.now c.loop-p.p 0 ≤ 4096 =
     omega (arith, c.requires.small, sums_small c.loop-p.p c.args.n c.args.classes.now c.args.counts.now c.loop-p.sums c.from-class.result c.from-class.ensures known c.loop-p-test.true (omega (arith, c.requires.few, c.told-counts)) c.loop-p.invariant) in

@@ -6,15 +6,15 @@ use Rattle.crews.proofs.pairing.pair.Goals as goal
 pub loop-p-init : goal.loop-p-init
 loop-p-init c = pair_none c.args.n (table_of c.args.classes.now c.args.left.now c.args.right.now) c.args.list.now _ refl
 
-pub pair-row-used-requires : goal.pair-row-used-requires
-pair-row-used-requires c =
+pub pair_row-used-requires : goal.pair_row-used-requires
+pair_row-used-requires c =
     let inv = c.loop-p.invariant in
     record { few = c.requires.few; row = c.loop-p-test.true; columns = inv.columns; begun = inv.count; room = omega (arith, c.requires.room, c.loop-p.auto.list) }
 
 pub loop-p-preserved : goal.loop-p-preserved
 loop-p-preserved c =
-    pair_more c.args.n (table_of c.args.classes.now c.args.left.now c.args.right.now) c.loop-p.p c.args.list.now c.loop-p.taken c.pair-row-used.new.taken
-    c.loop-p.list c.pair-row-used.new.list c.loop-p.used c.pair-row-used.result (search rules) c.loop-p.invariant c.pair-row-used.ensures
+    pair_more c.args.n (table_of c.args.classes.now c.args.left.now c.args.right.now) c.loop-p.p c.args.list.now c.loop-p.taken c.pair_row-used.new.taken
+    c.loop-p.list c.pair_row-used.new.list c.loop-p.used c.pair_row-used.result (search rules) c.loop-p.invariant c.pair_row-used.ensures
 
 pub returns : goal.returns
 returns c =

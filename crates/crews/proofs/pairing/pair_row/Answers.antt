@@ -6,8 +6,8 @@ use Rattle.crews.proofs.pairing.pair_row.Goals.{then-k-gt0, else-k-gt0}
 pub loop-q-init : goal.loop-q-init
 loop-q-init c = row_none c.args.n _ _ c.args.p c.args.start c.args.list.now c.args.taken.now c.requires.columns
 
-pub overflow-sub-right : goal.overflow-sub-right
-overflow-sub-right c =
+pub overflow_sub-right : goal.overflow_sub-right
+overflow_sub-right c =
     column_small c.args.n c.args.classes.now c.args.left.now c.args.right.now c.args.p c.loop-q.q c.args.start _ c.loop-q.taken c.loop-q.have _ _ c.requires.row
     c.loop-q-test.true c.loop-q.invariant
 
@@ -17,14 +17,14 @@ room c =
     entry_room c.args.n c.args.classes.now c.args.left.now c.args.right.now c.args.p c.loop-q.q c.args.start _ c.loop-q.taken c.loop-q.have _ _ c.requires.row
     c.loop-q-test.true c.loop-q.invariant c.cell-k.result c.cell-k.ensures c.requires.begun c.requires.room c.if-k-gt0.true
 
-pub offset-bounds-list-used : goal.offset-bounds-list-used
-offset-bounds-list-used c = let here = room c in search rules
+pub offset_bounds-list-used : goal.offset_bounds-list-used
+offset_bounds-list-used c = let here = room c in search rules
 
 pub bounds-list-used : goal.bounds-list-used
 bounds-list-used c = omega (arith, room c, c.loop-q.auto.list)
 
-pub overflow-add-used : goal.overflow-add-used
-overflow-add-used c = let here = room c in search rules
+pub overflow_add-used : goal.overflow_add-used
+overflow_add-used c = let here = room c in search rules
 
 pub loop-q-preserved : goal.loop-q-preserved
 loop-q-preserved c =

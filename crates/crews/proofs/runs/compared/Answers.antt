@@ -6,4 +6,4 @@ use Rattle.crews.proofs.runs.compared.Goals as goal
 pub returns : goal.returns
 returns g c =
     let b = c.args.bench.now in
-    steps_named (g.N.Net.meaning b.net) b b (Compare c.args.room) (Compare c.args.room) _ c.said.result refl c.said.ensures c.compare-in-verdict.ensures
+    steps_named (g.N.Net.meaning b.net) b b (Compare c.args.room) (Compare c.args.room) _ c.said.result refl c.said.ensures c.compare_in-verdict.ensures

@@ -1,8 +1,8 @@
 use Rattle.std.proofs.Common.{◌<◌, arith, rules}
 use Rattle.crews.proofs.search.may_answer.Goals as goal
 
-pub offset-bounds-crew-from : goal.offset-bounds-crew-from
-offset-bounds-crew-from g c =
+pub offset_bounds-crew-from : goal.offset_bounds-crew-from
+offset_bounds-crew-from g c =
     let law = g.N.Net.lawful c.args.net.now in
     let low : c.place-from.result < 128 = omega (arith, c.place-from.ensures, (law.each c.args.u c.requires.u-known).place_known, law.few_places) in
     search rules

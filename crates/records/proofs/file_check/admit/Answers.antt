@@ -10,6 +10,6 @@ pub returns-in-2 : goal.returns-in-2
 returns-in-2 c =
     let b = c.args.bytes.now in
     let kind : at b 0 ≡ 2 = search rules in
-    c.admit-transition.ensures
+    c.admit_transition.ensures
     ∙ ap (λ ts. admit (transition_by (at b 1) (at b 2) (at b 3) ts) c.args.spot c.args.seen) (take_rest b 4)
     ∙ sym (ap (λ e. admit e c.args.spot c.args.seen) (reading_kind b kind))

@@ -17,7 +17,7 @@ pub loop-k-preserved : goal.loop-k-preserved
 loop-k-preserved c =
     let b = c.args.bytes.now in
     let k = c.loop-k.k in
-    checked_to_more b k c.loop-k.seen c.record_at.result.now (Ok c.in-ok-seen.seen) c.loop-k.invariant c.record_at.ensures.value c.in-ok-seen.ensures
+    checked_to_more b k c.loop-k.seen c.record_at.result.now (Ok c.in_ok-seen.seen) c.loop-k.invariant c.record_at.ensures.value c.in_ok-seen.ensures
 
 pub returns-then-bytes-ne0 : goal.returns-then-bytes-ne0
 returns-then-bytes-ne0 c =
@@ -25,15 +25,15 @@ returns-then-bytes-ne0 c =
     let is : Err c.at.result ≡ checked b = search rules in
     record { result = is; verdict = means b (Err c.at.result) is; crews = tt; order = λ k. reasons_rise (reading (record_at b k)) k (counts_of b k) }
 
-pub returns-in-err-seen : goal.returns-in-err-seen
-returns-in-err-seen c =
-    let p = err_from_is_err_and c.from-residual.result c.from-residual.ensures.1 in
+pub returns-in_err-seen : goal.returns-in_err-seen
+returns-in_err-seen c =
+    let p = err_from_is_err_and c.from_residual.result c.from_residual.ensures.1 in
     let b = c.args.bytes.now in
     let k = c.loop-k.k in
     let whole : length b % 8 ≡ 0 = search rules in
-    let s = checked_to_more b k c.loop-k.seen c.record_at.result.now (Err c.in-err-seen.field-0.0) c.loop-k.invariant c.record_at.ensures.value c.in-err-seen.ensures in
-    let is : c.from-residual.result ≡ checked b = rw (p.1, p.2, whole) (sym (stays b (k + 1) (length b / 8) _ s (omega arith))) in
-    record { result = is; verdict = means b c.from-residual.result is; crews = measured b c.from-residual.result is; order = λ k. reasons_rise (reading (record_at b k)) k (counts_of b k) }
+    let s = checked_to_more b k c.loop-k.seen c.record_at.result.now (Err c.in_err-seen.field-0.0) c.loop-k.invariant c.record_at.ensures.value c.in_err-seen.ensures in
+    let is : c.from_residual.result ≡ checked b = rw (p.1, p.2, whole) (sym (stays b (k + 1) (length b / 8) _ s (omega arith))) in
+    record { result = is; verdict = means b c.from_residual.result is; crews = measured b c.from_residual.result is; order = λ k. reasons_rise (reading (record_at b k)) k (counts_of b k) }
 
 pub returns : goal.returns
 returns c =

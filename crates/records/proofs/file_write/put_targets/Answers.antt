@@ -4,8 +4,8 @@ use Rattle.records.proofs.Spreads.{loop_room}
 use Rattle.records.proofs.Writes.{filled_more}
 use Rattle.records.proofs.file_write.put_targets.Goals as goal
 
-pub slice-bounds-fill-end : goal.slice-bounds-fill-end
-slice-bounds-fill-end g c =
+pub slice_bounds-fill-end : goal.slice_bounds-fill-end
+slice_bounds-fill-end g c =
     let m = g.N.Net.meaning c.args.net.now in
     let room : c.loop-p.used + c.tokens-count.result ≤ length c.args.targets.now =
     loop_room m (g.N.Net.lawful c.args.net.now) c.args.t c.loop-p.p c.places-p-end.result c.loop-p.used c.tokens-count.result (length c.args.targets.now) c.requires.0 c.requires.1 c.places-p-end.ensures c.loop-p-test.true c.loop-p.invariant.1 c.tokens-count.ensures in

@@ -8,8 +8,8 @@ loop-k-preserved g c =
     let m = g.N.Net.meaning c.args.net.now in
     let k = c.loop-k.k in
     let less : k < records_of m = omega (arith, c.places.ensures, c.transitions.ensures, c.loop-k-test.true) in
-    written_more m (g.N.Net.lawful c.args.net.now) k ((8 * k + 8) - 8 * k) c.loop-k.out c.args.out.now c.copy-from-slice.new.self c.record-of-bytes.result
-    less c.loop-k.invariant c.record-of-bytes.ensures c.copy-from-slice.ensures.after (omega arith)
+    written_more m (g.N.Net.lawful c.args.net.now) k ((8 * k + 8) - 8 * k) c.loop-k.out c.args.out.now c.copy_from_slice.new.self c.record_of-bytes.result
+    less c.loop-k.invariant c.record_of-bytes.ensures c.copy_from_slice.ensures.after (omega arith)
 
 pub returns : goal.returns
 returns g c =

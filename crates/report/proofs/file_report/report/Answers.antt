@@ -20,7 +20,7 @@ returns c =
         reports = judges.reports;
         count = count;
         fits = omega (arith, count, judges.fits);
-        now-is = front;
+        now_is = front;
       };
       one = one_text;
     }

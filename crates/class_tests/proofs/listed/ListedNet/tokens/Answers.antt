@@ -10,4 +10,4 @@ pub returns-then-p-self : goal.returns-then-p-self
 returns-then-p-self c = let x = c.args.self.now in sym (listed_far x.places x.count x.rows c.args.t c.args.p c.if-t-self.false c.if-p-self.true)
 
 pub returns : goal.returns
-returns c = let x = c.args.self.now in c.times-in.ensures ∙ sym (listed_tokens x.places x.count x.rows c.args.t c.args.p c.if-t-self.false c.if-p-self.false)
+returns c = let x = c.args.self.now in c.times_in.ensures ∙ sym (listed_tokens x.places x.count x.rows c.args.t c.args.p c.if-t-self.false c.if-p-self.false)

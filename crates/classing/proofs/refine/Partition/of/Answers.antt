@@ -19,18 +19,18 @@ refined-requires g c =
 
 module _ (g : given.Over) (c : goal.Else-agrees g) where
   lowest_each : (p : ℕ) → p < (g.N.Net.meaning c.args.net.now).places
-      → LowestStay c.of-snapshot.result c.describe-all.new.profiles c.stages.table.classes p (get_or c.refined.new.next.classes p 0)
+      → LowestStay c.of-snapshot.result c.describe_all.new.profiles c.stages.table.classes p (get_or c.refined.new.next.classes p 0)
   lowest_each p l = c.refined.ensures p (omega (arith, c.of-snapshot.ensures.all_places))
 
   next_holds : Holds (g.N.Net.meaning c.args.net.now) (c.stages.rounds + 1) c.refined.new.next.classes
   next_holds =
       holds_more (g.N.Net.meaning c.args.net.now) c.of-snapshot.result c.of-snapshot.ensures (g.N.Net.lawful c.args.net.now).few_places c.stages.rounds
-      c.stages.table.classes c.refined.new.next.classes c.describe-all.new.profiles c.stages.invariant.0 c.describe-all.ensures lowest_each
+      c.stages.table.classes c.refined.new.next.classes c.describe_all.new.profiles c.stages.invariant.0 c.describe_all.ensures lowest_each
 
   unstable : (i : ℕ) → i < c.stages.rounds + 1 → stable (g.N.Net.meaning c.args.net.now) i ≡ false
   unstable =
       let tells = turn_tells (g.N.Net.meaning c.args.net.now) c.of-snapshot.result c.of-snapshot.ensures (g.N.Net.lawful c.args.net.now).few_places c.stages.rounds
-      c.stages.table.classes c.refined.new.next.classes c.describe-all.new.profiles c.stages.invariant.0 c.describe-all.ensures lowest_each
+      c.stages.table.classes c.refined.new.next.classes c.describe_all.new.profiles c.stages.invariant.0 c.describe_all.ensures lowest_each
       c.of-snapshot.result.places c.agrees.result c.of-snapshot.ensures.all_places c.agrees.ensures in
       below_more _ _ c.stages.invariant.1 (sym tells ∙ c.if-agrees.false)
 
@@ -39,8 +39,8 @@ module _ (g : given.Over) (c : goal.Else-agrees g) where
       let m = g.N.Net.meaning c.args.net.now in
       omega (arith, rounds_left m (c.stages.rounds + 1) unstable, rounds_most m)
 
-pub overflow-add-rounds : goal.overflow-add-rounds
-overflow-add-rounds g c = let small = (g.N.Net.lawful c.args.net.now).few_places in omega (arith, few g c)
+pub overflow_add-rounds : goal.overflow_add-rounds
+overflow_add-rounds g c = let small = (g.N.Net.lawful c.args.net.now).few_places in omega (arith, few g c)
 
 pub stages-smaller : goal.stages-smaller
 stages-smaller g c = omega (arith, few g c)
@@ -53,7 +53,7 @@ returns-then-agrees g c =
     let m = g.N.Net.meaning c.args.net.now in
     let law = g.N.Net.lawful c.args.net.now in
     let tells = turn_tells m c.of-snapshot.result c.of-snapshot.ensures law.few_places c.stages.rounds
-    c.stages.table.classes c.refined.new.next.classes c.describe-all.new.profiles c.stages.invariant.0 c.describe-all.ensures
+    c.stages.table.classes c.refined.new.next.classes c.describe_all.new.profiles c.stages.invariant.0 c.describe_all.ensures
     (λ p l. c.refined.ensures p (omega (arith, c.of-snapshot.ensures.all_places)))
     c.of-snapshot.result.places c.agrees.result c.of-snapshot.ensures.all_places c.agrees.ensures in
     let last : c.stages.rounds ≡ rounds m = rounds_here m c.stages.rounds c.stages.invariant.1 (sym tells ∙ c.if-agrees.true) in

@@ -34,14 +34,14 @@ returns g c =
     let law = g.N.Net.lawful c.args.net.now in
     record {
       sound = record {
-        few-places = omega (arith, law.few_places, c.places.ensures);
-        few-moves = omega (arith, law.few_transitions);
+        few_places = omega (arith, law.few_places, c.places.ensures);
+        few_moves = omega (arith, law.few_transitions);
         known = λ t l. (
             let place : place_at c.loop-t.moves t ≡ (transition m t).place = (c.loop-t.invariant.1 t (omega arith)).from in
             omega (arith, c.places.ensures, (law.each t (omega arith)).place_known));
         linked = c.link.ensures;
       };
-      all-places = c.places.ensures;
-      all-moves = c.transitions-count.ensures;
+      all_places = c.places.ensures;
+      all_moves = c.transitions-count.ensures;
       each = λ t l. c.loop-t.invariant.1 t (omega (arith, c.transitions-count.ensures));
     }

@@ -8,22 +8,22 @@ use Rattle.crews.proofs.Steps.{not_ready_steps, fire_crowded, fire_steps, sum_re
 use Rattle.crews.proofs.Tables.{with_table_net}
 use Rattle.crews.proofs.bench.Bench.fire.Goals as goal
 
-pub returns-in-err-crew : goal.returns-in-err-crew
-returns-in-err-crew g c =
+pub returns-in_err-crew : goal.returns-in_err-crew
+returns-in_err-crew g c =
     let b = c.args.self.now in
     let m = g.N.Net.meaning b.net in
     let s = c.args.side in
     let t = c.args.transition in
-    let p = err_from_is_err_and c.from-residual.result c.from-residual.ensures.1 in
-    rw (p.1, p.2) (record { same = refl; steps = not_ready_steps m b (Fire s t) s t (λ x. crowded (fired m t (on_side x s))) _ (λ x. refl) c.in-err-crew.ensures })
+    let p = err_from_is_err_and c.from_residual.result c.from_residual.ensures.1 in
+    rw (p.1, p.2) (record { same = refl; steps = not_ready_steps m b (Fire s t) s t (λ x. crowded (fired m t (on_side x s))) _ (λ x. refl) c.in_err-crew.ensures })
 
 pub returns-then-from-room : goal.returns-then-from-room
 returns-then-from-room g c =
     let b = c.args.self.now in
     let m = g.N.Net.meaning b.net in
     let law = g.N.Net.lawful b.net in
-    let y = c.in-ok-crew.crew in
-    let ready = c.in-ok-crew.ensures in
+    let y = c.in_ok-crew.crew in
+    let ready = c.in_ok-crew.ensures in
     let whole : length y.counts ≡ 128 = search rules in
     let all = sum_ready m b c.args.side c.args.transition y law ready whole in
     record {
@@ -36,8 +36,8 @@ pub fire-requires : goal.fire-requires
 fire-requires g c =
     let b = c.args.self.now in
     let m = g.N.Net.meaning b.net in
-    let y = c.in-ok-crew.crew in
-    let ready = c.in-ok-crew.ensures in
+    let y = c.in_ok-crew.crew in
+    let ready = c.in_ok-crew.ensures in
     let whole : length y.counts ≡ 128 = search rules in
     let all = sum_ready m b c.args.side c.args.transition y (g.N.Net.lawful b.net) ready whole in
     record { known = ready.known; there = ready.token; fits = omega (arith, all, c.if-from-room.false, c.room.ensures, c.total.ensures, c.from.ensures) }
@@ -47,8 +47,8 @@ returns g c =
     let b = c.args.self.now in
     let m = g.N.Net.meaning b.net in
     let law = g.N.Net.lawful b.net in
-    let y = c.in-ok-crew.crew in
-    let ready = c.in-ok-crew.ensures in
+    let y = c.in_ok-crew.crew in
+    let ready = c.in_ok-crew.ensures in
     let whole : length y.counts ≡ 128 = search rules in
     let all = sum_ready m b c.args.side c.args.transition y law ready whole in
     record {

@@ -9,25 +9,25 @@ use Rattle.crews.proofs.Steps.{not_ready_steps, sum_ready}
 use Rattle.crews.proofs.bench.Bench.follow.Goals as goal
 use Rattle.crews.proofs.bench.Bench.follow.Goals.{then-total-room-via-then-total-room, then-total-room-via-else-total-room+then-total-room-2}
 
-pub returns-in-err-crew : goal.returns-in-err-crew
-returns-in-err-crew g c =
+pub returns-in_err-crew : goal.returns-in_err-crew
+returns-in_err-crew g c =
     let b = c.args.self.now in
     let m = g.N.Net.meaning b.net in
     let s = c.args.side in
     let t = c.args.transition in
-    let p = err_from_is_err_and c.from-residual.result c.from-residual.ensures.1 in
-    rw (p.1, p.2) (record { same = refl; steps = not_ready_steps m b (Follow s t) s t (λ x. unlike m x ++ overfull m x s t) _ (λ x. refl) c.in-err-crew.ensures })
+    let p = err_from_is_err_and c.from_residual.result c.from_residual.ensures.1 in
+    rw (p.1, p.2) (record { same = refl; steps = not_ready_steps m b (Follow s t) s t (λ x. unlike m x ++ overfull m x s t) _ (λ x. refl) c.in_err-crew.ensures })
 
-pub returns-then-is-some : goal.returns-then-is-some
-returns-then-is-some g c =
+pub returns-then-is_some : goal.returns-then-is_some
+returns-then-is_some g c =
     let b = c.args.self.now in
     let m = g.N.Net.meaning b.net in
-    let cs = c.class-table-table.result.classes in
+    let cs = c.class_table-table.result.classes in
     let found = subst (λ (k : ℕ). Found k cs b.left.counts b.right.counts c.difference.result) c.places.ensures c.difference.ensures in
-    let (d, at) = found_some m.places cs b.left.counts b.right.counts c.difference.result (sym c.is-some.ensures ∙ c.if-is-some.true) found in
+    let (d, at) = found_some m.places cs b.left.counts b.right.counts c.difference.result (sym c.is_some.ensures ∙ c.if-is_some.true) found in
     record {
       same = refl;
-      steps = follow_apart m b c.args.side c.args.transition c.in-ok-crew.crew _ (g.N.Net.lawful b.net) c.in-ok-crew.ensures refl cs c.class-table-table.ensures d at
+      steps = follow_apart m b c.args.side c.args.transition c.in_ok-crew.crew _ (g.N.Net.lawful b.net) c.in_ok-crew.ensures refl cs c.class_table-table.ensures d at
           c.plain.result c.plain.ensures;
     }
 
@@ -36,14 +36,14 @@ answering-answer-requires g c =
     let b = c.args.self.now in
     let m = g.N.Net.meaning b.net in
     let law = g.N.Net.lawful b.net in
-    let cs = c.class-table-table.result.classes in
-    let ready = c.in-ok-crew.ensures in
+    let cs = c.class_table-table.result.classes in
+    let ready = c.in_ok-crew.ensures in
     let found = subst (λ (k : ℕ). Found k cs b.left.counts b.right.counts c.difference.result) c.places.ensures c.difference.ensures in
-    let level = found_none m.places cs b.left.counts b.right.counts c.difference.result (sym c.is-some.ensures ∙ c.if-is-some.false) found in
+    let level = found_none m.places cs b.left.counts b.right.counts c.difference.result (sym c.is_some.ensures ∙ c.if-is_some.false) found in
     record {
       known = ready.known;
-      named = λ p l. omega (arith, l, (c.class-table-table.ensures.lowest p l).most);
-      some = some_answer m b c.args.side c.args.transition c.in-ok-crew.crew c.crew-other.result law ready c.crew-other.ensures cs c.class-table-table.ensures level
+      named = λ p l. omega (arith, l, (c.class_table-table.ensures.lowest p l).most);
+      some = some_answer m b c.args.side c.args.transition c.in_ok-crew.crew c.crew-other.result law ready c.crew-other.ensures cs c.class_table-table.ensures level
           (search rules) (search rules);
     }
 
@@ -51,8 +51,8 @@ pub fire-requires : goal.fire-requires
 fire-requires g c =
     let b = c.args.self.now in
     let m = g.N.Net.meaning b.net in
-    let y = c.in-ok-crew.crew in
-    let ready = c.in-ok-crew.ensures in
+    let y = c.in_ok-crew.crew in
+    let ready = c.in_ok-crew.ensures in
     let whole : length y.counts ≡ 128 = search rules in
     let all = sum_ready m b c.args.side c.args.transition y (g.N.Net.lawful b.net) ready whole in
     record { known = ready.known; there = ready.token; fits = omega (arith, all, c.if-total-room.false, c.room.ensures, c.total.ensures, c.from-total.ensures) }
@@ -62,13 +62,13 @@ fire-requires-2 g c =
     let b = c.args.self.now in
     let m = g.N.Net.meaning b.net in
     let law = g.N.Net.lawful b.net in
-    let cs = c.class-table-table.result.classes in
+    let cs = c.class_table-table.result.classes in
     let z = c.crew-other.result in
     let fits = c.answering-answer.ensures in
     let found = subst (λ (k : ℕ). Found k cs b.left.counts b.right.counts c.difference.result) c.places.ensures c.difference.ensures in
-    let level = found_none m.places cs b.left.counts b.right.counts c.difference.result (sym c.is-some.ensures ∙ c.if-is-some.false) found in
+    let level = found_none m.places cs b.left.counts b.right.counts c.difference.result (sym c.is_some.ensures ∙ c.if-is_some.false) found in
     let whole : length z.counts ≡ 128 = search rules in
-    let all = sum_answer m b c.args.side c.args.transition c.in-ok-crew.crew z law c.in-ok-crew.ensures c.crew-other.ensures cs c.class-table-table.ensures level
+    let all = sum_answer m b c.args.side c.args.transition c.in_ok-crew.crew z law c.in_ok-crew.ensures c.crew-other.ensures cs c.class_table-table.ensures level
     (search rules) (search rules) c.answering-answer.result fits whole in
     record { known = fits.known; there = fits.token; fits = omega (arith, all, c.if-total-room-2.false, c.room-else-total-room.ensures, c.total.ensures, c.from-total.ensures) }
 
@@ -77,17 +77,17 @@ returns g c =
     let b = c.args.self.now in
     let m = g.N.Net.meaning b.net in
     let law = g.N.Net.lawful b.net in
-    let cs = c.class-table-table.result.classes in
-    let y = c.in-ok-crew.crew in
-    let ready = c.in-ok-crew.ensures in
+    let cs = c.class_table-table.result.classes in
+    let y = c.in_ok-crew.crew in
+    let ready = c.in_ok-crew.ensures in
     let found = subst (λ (k : ℕ). Found k cs b.left.counts b.right.counts c.difference.result) c.places.ensures c.difference.ensures in
-    let level = found_none m.places cs b.left.counts b.right.counts c.difference.result (sym c.is-some.ensures ∙ c.if-is-some.false) found in
+    let level = found_none m.places cs b.left.counts b.right.counts c.difference.result (sym c.is_some.ensures ∙ c.if-is_some.false) found in
     let whole : length y.counts ≡ 128 = search rules in
     let all = sum_ready m b c.args.side c.args.transition y law ready whole in
     let after = c.replace-2.ensures ∙ ap (λ a. with_table a (1 - c.args.side) c.fire-2.new.self) c.replace.ensures in
     record {
       same = both_net b c.replace-2.new.self c.args.side c.fire.new.self c.fire-2.new.self after;
-      steps = follow_steps m b c.args.side c.args.transition y c.crew-other.result law ready c.crew-other.ensures cs c.class-table-table.ensures level
+      steps = follow_steps m b c.args.side c.args.transition y c.crew-other.result law ready c.crew-other.ensures cs c.class_table-table.ensures level
           c.answering-answer.result c.answering-answer.ensures c.replace-2.new.self c.fire.new.self c.fire-2.new.self after c.fire.ensures c.fire-2.ensures
           (omega (arith, all, c.if-total-room.false, c.room.ensures, c.total.ensures, c.from-total.ensures));
     }
@@ -97,13 +97,13 @@ returns-then-total-room g c =
     let b = c.args.self.now in
     let m = g.N.Net.meaning b.net in
     let law = g.N.Net.lawful b.net in
-    let cs = c.class-table-table.result.classes in
-    let y = c.in-ok-crew.crew in
-    let ready = c.in-ok-crew.ensures in
+    let cs = c.class_table-table.result.classes in
+    let y = c.in_ok-crew.crew in
+    let ready = c.in_ok-crew.ensures in
     let found = subst (λ (k : ℕ). Found k cs b.left.counts b.right.counts c.difference.result) c.places.ensures c.difference.ensures in
-    let level = found_none m.places cs b.left.counts b.right.counts c.difference.result (sym c.is-some.ensures ∙ c.if-is-some.false) found in
+    let level = found_none m.places cs b.left.counts b.right.counts c.difference.result (sym c.is_some.ensures ∙ c.if-is_some.false) found in
     let whole : length y.counts ≡ 128 = search rules in
-    let full = follow_full m b c.args.side c.args.transition y c.crew-other.result law ready c.crew-other.ensures cs c.class-table-table.ensures level
+    let full = follow_full m b c.args.side c.args.transition y c.crew-other.result law ready c.crew-other.ensures cs c.class_table-table.ensures level
     c.plain-then-total-room.result c.plain-then-total-room.ensures whole in
     record {
       same = refl;

@@ -14,8 +14,8 @@ remove-requires g c =
       there = omega (arith, here, c.requires.there);
     }
 
-pub put-down-requires : goal.put-down-requires
-put-down-requires g c =
+pub put_down-requires : goal.put_down-requires
+put_down-requires g c =
     let t = transition (g.N.Net.meaning c.args.net.now) c.args.transition in
     let taken : sum c.remove.new.self.counts ≡ sum (fewer c.args.self.now.counts t.place 1) =
     ap sum c.remove.ensures ∙ ap (λ (p : ℕ). sum (fewer c.args.self.now.counts p 1)) c.place.ensures in

@@ -3,8 +3,8 @@ use Rattle.net.specs.JoinLaws.{join_answers}
 use Rattle.net.proofs.joined.JoinedNet.place.Goals as goal
 
 -- both numbers are below the nets' counts of places, and those are small
-pub overflow-add-result : goal.overflow-add-result
-overflow-add-result g c =
+pub overflow_add-result : goal.overflow_add-result
+overflow_add-result g c =
     let here = c.args.self.now in
     let right = g.B1.Net.lawful here.right in
     let left_few : (g.A1.Net.meaning here.left).places ≤ 128 = (g.A1.Net.lawful here.left).few_places in

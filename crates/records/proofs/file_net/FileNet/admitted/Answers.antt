@@ -1,5 +1,5 @@
 use Rattle.records.specs.FileLaws.{kept}
 use Rattle.records.proofs.file_net.FileNet.admitted.Goals as goal
 
-pub invariant-of-result : goal.invariant-of-result
-invariant-of-result c = let k = kept c.args.bytes.now c.args.seen c.requires c.index-of-starts.result c.index-of-starts.ensures in (k.size, (k.places, (k.table, (k.few, tt))))
+pub invariant_of-result : goal.invariant_of-result
+invariant_of-result c = let k = kept c.args.bytes.now c.args.seen c.requires c.index_of-starts.result c.index_of-starts.ensures in record { whole = k.size; declared = k.places; tied = k.table; few = k.few }

@@ -18,5 +18,5 @@ returns c =
     let b = s.bytes.now in
     let k = c.args.k in
     let inside : k < admitted_records b = search rules in
-    let is : c.tokens-in.result ≡ tokens_said (reading (record_at b k)) = c.tokens-in.ensures ∙ ap (λ r. tokens_said (reading r)) c.record_at.ensures.value in
-    record { value = token_in b k c.tokens-in.result is inside; crews = λ _. put_of b k c.tokens-in.result is inside }
+    let is : c.tokens_in.result ≡ tokens_said (reading (record_at b k)) = c.tokens_in.ensures ∙ ap (λ r. tokens_said (reading r)) c.record_at.ensures.value in
+    record { value = token_in b k c.tokens_in.result is inside; crews = λ _. put_of b k c.tokens_in.result is inside }
