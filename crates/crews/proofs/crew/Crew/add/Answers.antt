@@ -14,4 +14,4 @@ invariant_of-self c =
     let xs = c.args.self.now.counts in
     let within : c.args.place < length xs = search rules in
     let all = sum_more xs c.args.place c.args.count within in
-    (omega (arith, all, c.args.self.now.summed), (omega (arith, c.args.self.now.summed, c.requires.fits), tt))
+    record { summed = omega (arith, all, c.args.self.now.summed); few = omega (arith, c.args.self.now.summed, c.requires.fits) }

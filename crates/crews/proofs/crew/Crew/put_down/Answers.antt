@@ -46,7 +46,7 @@ pub invariant_of-self : goal.invariant_of-self
 invariant_of-self g c =
     let done = all_down _ _ _ _ _ _ (g.N.Net.lawful c.args.net.now) c.requires.known (search rules) c.loop-left.invariant (search rules) in
     let all = ap sum done ∙ sum_plus c.args.self.now.counts (transition (g.N.Net.meaning c.args.net.now) c.args.transition).puts in
-    (omega (arith, all, c.args.self.now.summed, c.from-2.ensures, c.total-total.ensures), (omega (arith, c.args.self.now.summed, c.from-2.ensures, c.total-total.ensures, c.requires.fits), tt))
+    record { summed = omega (arith, all, c.args.self.now.summed, c.from-2.ensures, c.total-total.ensures); few = omega (arith, c.args.self.now.summed, c.from-2.ensures, c.total-total.ensures, c.requires.fits) }
 
 pub returns : goal.returns
 returns g c = all_down _ _ _ _ _ _ (g.N.Net.lawful c.args.net.now) c.requires.known (search rules) c.loop-left.invariant (search rules)

@@ -13,4 +13,4 @@ invariant_of-self c =
     let xs = c.args.self.now.counts in
     let within : c.args.place < length xs = search rules in
     let all = sum_fewer xs c.args.place c.args.count within c.requires.there in
-    (omega (arith, all, c.args.self.now.summed), (omega (arith, c.args.self.now.few), tt))
+    record { summed = omega (arith, all, c.args.self.now.summed); few = omega (arith, c.args.self.now.few) }
