@@ -1,5 +1,5 @@
 -- Where a line holds depends only on where the lines that it names do.
-use Rattle.std.proofs.Common.{◌≡◌, ℕ, zero, suc, ◌<◌, Bool, cond, not, ◌&&◌, List, length, get_or, sym, refl, ap, ◌∙◌, subst, ap₂, arith}
+use Rattle.std.proofs.Common.{◌≡◌, ℕ, zero, suc, ◌<◌, Bool, cond, not, ◌&&◌, List, get_or, sym, refl, ap, ◌∙◌, subst, ap₂, arith}
 use Rattle.std.proofs.lemmas.Bool.Decides.{Decides-like, Decides-at, same_from_decides}
 use Rattle.net.specs.Meaning.{Meaning, transition, count_of}
 use Rattle.net.specs.Limits.{most_total}
@@ -9,7 +9,7 @@ use Rattle.team.proofs.Sums.{tally_cong}
 use Rattle.formulas.specs.declared.line.Line.{Line}
 use Rattle.formulas.specs.Lines.{pair_at, line_at, uses, LawfulLine}
 use Rattle.formulas.specs.Truths.{Truths, does, by_kind, truth, cell, truth_rows, holds}
-use Rattle.formulas.specs.Theorems.{Done, HoldsByKind, LinesHold}
+use Rattle.formulas.specs.Theorems.{Done, LinesHold}
 use Rattle.formulas.proofs.Lawful.{lawful_used}
 use Rattle.formulas.proofs.Doing.{decides_done}
 use Rattle.formulas.proofs.Rows.{cell_new, cell_holds}

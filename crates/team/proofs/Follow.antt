@@ -1,6 +1,5 @@
 -- A transition that fires on one side is followed on the other.
-use Rattle.std.proofs.Common.{◌≡◌, ℕ, ◌+◌, ◌<◌, List, length, get_or, sym, refl, ap, ◌∙◌, arith}
-use Rattle.std.proofs.lemmas.List.{length-set}
+use Rattle.std.proofs.Common.{◌≡◌, ℕ, ◌<◌, List, sym, refl, ap, ◌∙◌, arith}
 use Rattle.net.specs.Meaning.{Meaning, transition, count_of}
 use Rattle.net.specs.Limits.{Lawful}
 use Rattle.net.specs.Markings.{fired}

@@ -1,4 +1,4 @@
-use Rattle.std.proofs.Common.{◌≡◌, ◌+◌, ◌<◌, [], ◌∷◌, ◌++◌, length, take, sym, ap, ◌∙◌, ap₂, arith, length-append, length-set, rules}
+use Rattle.std.proofs.Common.{◌≡◌, ◌<◌, [], ◌∷◌, ◌++◌, length, take, sym, ap, ◌∙◌, ap₂, arith, length-append, length-set, rules}
 use Rattle.std.proofs.lemmas.List.{take_more_set}
 use Rattle.records.specs.Layout.{record_at, record_count, at}
 use Rattle.records.specs.File.{transition_records}

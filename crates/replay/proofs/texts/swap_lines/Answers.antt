@@ -4,12 +4,12 @@ use Rattle.replay.proofs.Lines.{lines_more}
 use Rattle.replay.proofs.texts.swap_lines.Goals as goal
 
 pub loop-swap-init : goal.loop-swap-init
-loop-swap-init c = c.in-ok-text.ensures.ok
+loop-swap-init c = c.in_ok-text.ensures.ok
 
 pub loop-swap-preserved : goal.loop-swap-preserved
 loop-swap-preserved c =
     lines_more (codes "ALIKE") _ _ _ c.swaps-swap-items.result.now c.loop-swap.swap-index _ c.loop-swap-test.true c.loop-swap.invariant
-    (c.as-str.ensures.value ∙ c.in-ok-entry.ensures) c.in-ok-push-str.ensures.bytes
+    (c.as_str.ensures.value ∙ c.in_ok-entry.ensures) c.in_ok-push_str.ensures.bytes
 
 pub returns : goal.returns
 returns c =

@@ -8,7 +8,7 @@ use Rattle.crews.specs.declared.call.Call.TheVariants.{Put}
 use Rattle.report.specs.Reports.{crews_after}
 use Rattle.report.proofs.Filling.{crews_none, crews_same, crews_more}
 use Rattle.report.proofs.file_bench.bench_of.Goals as goal
-use Rattle.report.proofs.file_bench.bench_of.Goals.{in-Some, in-default}
+use Rattle.report.proofs.file_bench.bench_of.Goals.{in-Some, in_default}
 
 pub loop-k-init : goal.loop-k-init
 loop-k-init c =
@@ -24,7 +24,7 @@ loop-k-preserved c =
     let inv = c.loop-k.invariant in
     let same = c.new-net.ensures in
     let inside : k < admitted_records c.new-net.result.bytes.now = omega (arith, c.loop-k-test.true, c.records-k-end.ensures) in
-    elim c.match-token-record.branch [
+    elim c.match-token_record.branch [
       | in-Some w ↦
           let t = w.in-Some.tokens in
           let told = subst (λ (b : List ℕ). PutBy b k (Some t)) same (w.in-Some.ensures.crews inside) in
@@ -32,8 +32,8 @@ loop-k-preserved c =
             ap (λ (b : Bench FileNet). b.net) w.bench-is ∙ w.put.ensures.same ∙ inv.0,
             subst (λ (b : Bench FileNet). Shows (net_of bytes) b (crews_after bytes (k + 1))) (sym w.bench-is) (crews_more bytes k t c.loop-k.bench w.put.new.self (done_or w.put.result) told steps inv.1),
           )
-      | in-default w ↦
-          let told = subst (λ (b : List ℕ). PutBy b k None) same (w.in-default.ensures.crews inside) in (
+      | in_default w ↦
+          let told = subst (λ (b : List ℕ). PutBy b k None) same (w.in_default.ensures.crews inside) in (
             ap (λ (b : Bench FileNet). b.net) w.bench-is ∙ inv.0,
             subst (λ (b : Bench FileNet). Shows (net_of bytes) b (crews_after bytes (k + 1))) (sym w.bench-is) (subst (Shows (net_of bytes) c.loop-k.bench) (sym (crews_same bytes k told)) inv.1),
           )

@@ -5,16 +5,16 @@ use Rattle.report.proofs.Lengths.{length_refused_text}
 use Rattle.report.proofs.Placing.{placed_append, placed_as}
 use Rattle.report.proofs.lines.put_refused.Goals as goal
 
-pub put-field-at-requires : goal.put-field-at-requires
-put-field-at-requires c = omega (arith, c.requires, length_refused_text c.args.fault, ap (λ n. length (field n)) c.number.ensures, c.put-text-at.ensures.ends)
+pub put_field-at-requires : goal.put_field-at-requires
+put_field-at-requires c = omega (arith, c.requires, length_refused_text c.args.fault, ap (λ n. length (field n)) c.number.ensures, c.put_text-at.ensures.ends)
 
-pub put-spot-at-requires : goal.put-spot-at-requires
-put-spot-at-requires c =
-    omega (arith, c.requires, length_refused_text c.args.fault, ap (λ n. length (field n)) c.number.ensures, c.put-text-at.ensures.ends, c.put-field-at.ensures.ends)
+pub put_spot-at-requires : goal.put_spot-at-requires
+put_spot-at-requires c =
+    omega (arith, c.requires, length_refused_text c.args.fault, ap (λ n. length (field n)) c.number.ensures, c.put_text-at.ensures.ends, c.put_field-at.ensures.ends)
 
-pub end-line-requires : goal.end-line-requires
-end-line-requires c =
-    omega (arith, c.requires, length_refused_text c.args.fault, ap (λ n. length (field n)) c.number.ensures, c.put-text-at.ensures.ends, c.put-field-at.ensures.ends, c.put-spot-at.ensures.ends)
+pub end_line-requires : goal.end_line-requires
+end_line-requires c =
+    omega (arith, c.requires, length_refused_text c.args.fault, ap (λ n. length (field n)) c.number.ensures, c.put_text-at.ensures.ends, c.put_field-at.ensures.ends, c.put_spot-at.ensures.ends)
 
 pub returns : goal.returns
 returns c =
@@ -22,7 +22,7 @@ returns c =
     let number = field (number_of f.refusal) in
     let last = codes "\n" in
     let long = ap (λ n. length (field n)) c.number.ensures in
-    placed_append 0 (codes "REFUSED") (number ++ (spot_field f.spot ++ last)) (omega arith) c.put-text-at.ensures
-    (placed_append c.put-text-at.result number (spot_field f.spot ++ last) (omega (arith, c.requires, length_refused_text f, c.put-text-at.ensures.ends)) (placed_as (ap field c.number.ensures) c.put-field-at.ensures)
-    (placed_append c.put-field-at.result (spot_field f.spot) last (omega (arith, c.requires, length_refused_text f, long, c.put-text-at.ensures.ends, c.put-field-at.ensures.ends))
-    c.put-spot-at.ensures c.end-line.ensures))
+    placed_append 0 (codes "REFUSED") (number ++ (spot_field f.spot ++ last)) (omega arith) c.put_text-at.ensures
+    (placed_append c.put_text-at.result number (spot_field f.spot ++ last) (omega (arith, c.requires, length_refused_text f, c.put_text-at.ensures.ends)) (placed_as (ap field c.number.ensures) c.put_field-at.ensures)
+    (placed_append c.put_field-at.result (spot_field f.spot) last (omega (arith, c.requires, length_refused_text f, long, c.put_text-at.ensures.ends, c.put_field-at.ensures.ends))
+    c.put_spot-at.ensures c.end_line.ensures))

@@ -4,6 +4,6 @@ use Rattle.report.proofs.writing.put_text.Goals as goal
 
 pub returns : goal.returns
 returns c = record {
-  bytes = put_mid_overwritten c.args.at _ c.args.text.now c.args.out.now c.copy-from-slice.new.self c.copy-from-slice.ensures.after (omega arith);
+  bytes = put_mid_overwritten c.args.at _ c.args.text.now c.args.out.now c.copy_from_slice.new.self c.copy_from_slice.ensures.after (omega arith);
   ends = refl;
 }

@@ -8,4 +8,4 @@ pub loop-j-preserved : goal.loop-j-preserved
 loop-j-preserved g c =
     let T = g.T.Tells.tells c.args.truths.now in
     let most = stands_most T c.args.line (get_or c.args.targets.now c.loop-j.j 0) in
-    (omega (arith, c.stands-where-sum.ensures, tally_next c.loop-j.j (λ i. stands T c.args.line (get_or c.args.targets.now i 0))), omega (arith, most, c.stands-where-sum.ensures))
+    (omega (arith, c.stands_where-sum.ensures, tally_next c.loop-j.j (λ i. stands T c.args.line (get_or c.args.targets.now i 0))), omega (arith, most, c.stands_where-sum.ensures))
