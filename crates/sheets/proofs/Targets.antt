@@ -5,7 +5,7 @@ use Rattle.net.specs.Limits.{most_places, most_total}
 use Rattle.team.specs.Below.{tally}
 use Rattle.team.specs.Markings.{held}
 use Rattle.team.proofs.Sums.{tally_cong, tally_more, tally_zero, tally_swap, tally_some, cond_tally, cond_zero, cond_some, sum_by_tally}
-use Rattle.classing.specs.Targets.{no_target, times, Spells}
+use Rattle.classing.specs.Targets.{no_target, Spells}
 use Rattle.formulas.specs.Truths.{Truths}
 use Rattle.sheets.specs.Doing.{stands, tokens_where, targets_in}
 

@@ -1,4 +1,4 @@
-use Rattle.std.proofs.Common.{◌++◌, codes, refl, ap, ◌∙◌, arith, take_all}
+use Rattle.std.proofs.Common.{◌++◌, codes, ap, ◌∙◌, arith, take_all}
 use Rattle.replay.specs.Texts.{swap_lines}
 use Rattle.replay.proofs.Lines.{lines_more}
 use Rattle.replay.proofs.texts.swap_lines.Goals as goal
