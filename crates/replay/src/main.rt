@@ -14,13 +14,14 @@ use records::FileNet;
 use script::{Line, read_line};
 use source::{Source, named_source};
 use std::io::Read;
+use std::process::ExitCode;
 use texts::line;
 
-fn main(rt: HostRuntime) -> anyhow::Result<()> {
+fn main(rt: HostRuntime) -> anyhow::Result<ExitCode> {
     if run(&rt)? {
-        Ok(())
+        Ok(ExitCode::SUCCESS)
     } else {
-        Err(anyhow!("the fault is told"))
+        Ok(ExitCode::FAILURE)
     }
 }
 

@@ -1,4 +1,4 @@
-use Rattle.std.proofs.Common.{◌≡◌, refl, ◌∙◌, arith, length-set}
+use Rattle.std.proofs.Common.{◌≡◌, ◌≤◌, refl, ◌∙◌, arith, rules, length-set}
 use Rattle.std.proofs.lemmas.List.{get_or-replicate}
 use Rattle.net.specs.Meaning.{transition}
 use Rattle.classing.specs.Snapshots.{Keeps, no_move, place_at}
@@ -28,20 +28,23 @@ link-requires g c =
       clear = λ p l. get_or-replicate 128 p _ 0 l;
     }
 
+-- the places go by the search, so that a snapshot with other places fails at that fact
 pub returns : goal.returns
 returns g c =
     let m = g.N.Net.meaning c.args.net.now in
     let law = g.N.Net.lawful c.args.net.now in
+    let few : m.places ≤ 128 = law.few_places in
     record {
       sound = record {
-        few_places = omega (arith, law.few_places, c.places.ensures);
+        few_places = search rules;
         few_moves = omega (arith, law.few_transitions);
         known = λ t l. (
             let place : place_at c.loop-t.moves t ≡ (transition m t).place = (c.loop-t.invariant.1 t (omega arith)).from in
-            omega (arith, c.places.ensures, (law.each t (omega arith)).place_known));
+            let inside = (law.each t (omega arith)).place_known in
+            search rules);
         linked = c.link.ensures;
       };
-      all_places = c.places.ensures;
+      all_places = search rules;
       all_moves = c.transitions-count.ensures;
       each = λ t l. c.loop-t.invariant.1 t (omega (arith, c.transitions-count.ensures));
     }
