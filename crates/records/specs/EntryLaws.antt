@@ -1,11 +1,10 @@
 -- What the reading of a record tells of its bytes.
 use Rattle.std.specs.Prelude.{◌≡◌, ℕ, ◌≤◌, Bool, true, false, cond, ◌&&◌, List, drop, ◌==◌, nat_eq, nat_le, refl}
-use Rattle.std.proofs.Common.{arith, ap, subst, ◌∙◌}
+use Rattle.std.proofs.Common.{arith, ap, ◌∙◌}
 use Rattle.std.proofs.lemmas.Bool.{false≢true, and_parts, leb-true, eqb-true, eq-eqb, ne_eqb}
 use Rattle.net.specs.Limits.{most_label}
 use Rattle.records.specs.Layout.{at, place_kind, transition_kind, tokens_kind, head_size, record_targets}
 use Rattle.records.specs.Entry.{declares, moves, holds, broken, is_transition, padded, place_form, place_reading, transition_form, transition_reading, targets_of, two_bytes, tokens_form, tokens_reading, reading}
-use Rattle.records.specs.Check.{well_formed}
 
 pub reading_kind : (r : List ℕ) → at r 0 ≡ transition_kind → reading r ≡ transition_reading r
 reading_kind r kind =
@@ -17,7 +16,6 @@ reading_kind r kind =
 
 -- the bytes of a transition record
 pub record Moving (r : List ℕ) : Type 0 where
-  pub kind : at r 0 ≡ transition_kind
   pub label_small : at r 2 ≤ most_label
   pub total_small : at r 3 ≤ record_targets
   pub is : reading r ≡ moves (at r 1) (at r 2) (targets_of r)
@@ -35,7 +33,6 @@ moving_by r kind true e h =
     let all = and_parts (nat_le (at r 2) most_label && nat_le (at r 3) record_targets) (padded (at r 3) (drop head_size r)) e in
     let both = and_parts (nat_le (at r 2) most_label) (nat_le (at r 3) record_targets) all.0 in
     record {
-      kind = kind;
       label_small = leb-true (at r 2) most_label both.0;
       total_small = leb-true (at r 3) record_targets both.1;
       is = reading_kind r kind ∙ ap (λ v. cond v (moves (at r 1) (at r 2) (targets_of r)) broken) e;
@@ -50,11 +47,3 @@ moving r h = by_kind (at r 0 == place_kind) (at r 0 == transition_kind) (at r 0 
     by_kind false true three e h = moving_by r (eqb-true (at r 0) transition_kind e) (transition_form (at r 2) (at r 3) (drop head_size r)) refl h
     by_kind false false true e h = no_tokens (tokens_form r) (at r 1) (at r 2) (two_bytes (at r 4) (at r 5)) h
     by_kind false false false e h = absurd (false≢true h)
-
--- a record of that kind that keeps its form is one
-pub kind_moves : (r : List ℕ) → well_formed (reading r) ≡ true → at r 0 ≡ transition_kind → is_transition (reading r) ≡ true
-kind_moves r h kind = ap is_transition (reading_kind r kind) ∙ by_form (transition_form (at r 2) (at r 3) (drop head_size r)) (subst (λ e. well_formed e ≡ true) (reading_kind r kind) h)
-  where
-    by_form : (v : Bool) → well_formed (cond v (moves (at r 1) (at r 2) (targets_of r)) broken) ≡ true → is_transition (cond v (moves (at r 1) (at r 2) (targets_of r)) broken) ≡ true
-    by_form true h = refl
-    by_form false h = absurd (false≢true h)

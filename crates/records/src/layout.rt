@@ -8,9 +8,6 @@ pub(crate) const TRANSITION_KIND: u8 = 2;
 
 pub(crate) const TOKENS_KIND: u8 = 3;
 
-// The bytes of a transition record before its targets: kind, place, label, total.
-pub(crate) const HEAD_SIZE: usize = 4;
-
 // The targets that a transition record has room for.
 pub(crate) const RECORD_TARGETS: usize = 4;
 
