@@ -1,7 +1,7 @@
 -- What a joined net's transitions are, that it keeps the limits, and which net each of them comes from.
 use Rattle.std.specs.Prelude.{◌≡◌, ℕ, ◌+◌, ◌-◌, ◌<◌, ◌≤◌, Bool, true, false, cond, map, length, Some, None, Option, nat_le, refl}
 use Rattle.std.proofs.Common.{arith, sym, subst, ◌∙◌, length-append, leb-true, leb-false}
-use Rattle.std.proofs.lemmas.List.{get_or_append_left, get_or-append_right, get_or-map, get_or_past, length-map, length-replicate}
+use Rattle.std.proofs.lemmas.List.{get_or_append_left, get_or-append_right, get_or-map, length-map, length-replicate}
 use Rattle.std.proofs.lemmas.Bool.{and_parts}
 use Rattle.net.specs.Meaning.{Meaning, Transition, transition, idle, count_of, empty}
 use Rattle.net.specs.Limits.{Lawful, Within, empty_lawful}
@@ -27,9 +27,6 @@ module _ (a b : Meaning) where
   beside_right t h k =
       get_or-append_right (map (kept b.places) a.transitions) (map (moved a.places) b.transitions) (count_of a) t idle (length-map a.transitions (kept b.places)) h
       ∙ get_or-map (moved a.places) b.transitions (t - count_of a) idle idle k
-
-  pub beside_past : (t : ℕ) → count_of a + count_of b ≤ t → transition (beside a b) t ≡ idle
-  beside_past t h = get_or_past (beside a b).transitions t idle (rw count_beside h)
 
 -- ## The limits
 

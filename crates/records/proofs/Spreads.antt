@@ -147,6 +147,3 @@ pub loop_room : (m : Meaning) → Lawful m → (t p n used count : ℕ) → t < 
 loop_room m law t p n used count l n_is h used_is count_is =
     let within = law.each t l in
     omega (arith, spread_room m.places p record_targets (transition m t) within within.total_small (omega arith))
-
-pub place_fits : (m : Meaning) → Lawful m → (t place : ℕ) → t < count_of m → place ≡ (transition m t).place → place < 256
-place_fits m law t place l e = omega (arith, (law.each t l).place_known, law.few_places)

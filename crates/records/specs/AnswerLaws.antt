@@ -6,13 +6,13 @@ use Rattle.std.proofs.lemmas.List.{get_or_past}
 use Rattle.std.proofs.lemmas.List.FromFn.{get_or-map-range_with_len}
 use Rattle.std.proofs.lemmas.List.Sums.{sum_by-cons}
 use Rattle.std.proofs.lemmas.Bool.{false≢true, and_parts, ltb-true, ne_eqb, cases_lt}
-use Rattle.net.specs.Meaning.{transition, idle, count_of, tokens_on, total_of}
+use Rattle.net.specs.Meaning.{transition, count_of, tokens_on, total_of}
 use Rattle.records.specs.declared.record.Transition.{Transition as Read}
 use Rattle.records.specs.Layout.{record_size, record_at}
 use Rattle.records.specs.Entry.{moves, is_transition, below, targets_of, reading}
 use Rattle.records.specs.File.{tokens_to, transition_of, net_of, picked}
 use Rattle.records.specs.TargetLaws.{sum_tokens}
-use Rattle.records.specs.FileLaws.{found, net_at, net_past, count_is, net_lawful}
+use Rattle.records.specs.FileLaws.{found, net_at, count_is, net_lawful}
 
 -- what is read of transition t tells each answer about it; none tells 0
 pub record Tells (b : List ℕ) (t : ℕ) (o : Option Read) : Type 0 where
@@ -20,13 +20,6 @@ pub record Tells (b : List ℕ) (t : ℕ) (o : Option Read) : Type 0 where
   pub label : option_map_or (λ x. x.label) o 0 ≡ (transition (net_of b) t).label
   pub total : option_map_or (λ x. length x.targets.now) o 0 ≡ total_of (transition (net_of b) t)
   pub tokens : (p : ℕ) → option_map_or (λ x. tokens_to x.targets.now p) o 0 ≡ tokens_on (transition (net_of b) t) p
-
--- ## A transition past the last
-
-tells_past : (b : List ℕ) (t : ℕ) → count_of (net_of b) ≤ t → Tells b t None
-tells_past b t h =
-    let is : idle ≡ transition (net_of b) t = sym (net_past b t (omega (arith, count_is b))) in
-    record { place = ap (λ x. x.place) is; label = ap (λ x. x.label) is; total = ap total_of is; tokens = λ p. ap (λ x. tokens_on x p) is }
 
 -- ## A transition of the file
 
@@ -77,9 +70,6 @@ module _ (b starts : List ℕ) (count : ℕ) (tied : take count starts ≡ picke
 
   pub table_count : count ≡ count_of (net_of b)
   table_count = length_picked ∙ sym (count_is b)
-
-  pub past_tells : (t : ℕ) → count ≤ t → Tells b t None
-  past_tells t h = tells_past b t (omega (arith, table_count))
 
   -- the number k of the record of transition t
   module _ (t k : ℕ) (h : t < count) (k_is : k ≡ slice_index starts t) where

@@ -1,7 +1,7 @@
 -- That the net of a file keeps the limits, and its answers as the code gives them.
 use Rattle.std.specs.Prelude.{◌≡◌, ℕ, zero, suc, ◌+◌, ◌%◌, ◌<◌, ◌≤◌, Bool, true, false, cond, List, [], ◌∷◌, ◌++◌, map, length, take, is_ok, Ok, Err, Result, ◌==◌, nat_lt, slice_index, slice_index_or, refl}
 use Rattle.std.proofs.Common.{arith, sym, ap, subst, ◌∙◌, length-append, length-take}
-use Rattle.std.proofs.lemmas.List.{get_or_past, get_or-map, length-map}
+use Rattle.std.proofs.lemmas.List.{get_or-map, length-map}
 use Rattle.std.proofs.lemmas.List.FromFn.{length-map-range_with_len}
 use Rattle.std.proofs.lemmas.Bool.{false≢true, and_parts, ltb-true}
 use Rattle.net.specs.declared.refusal.Refusal.TheVariants.{PartialRecord}
@@ -125,9 +125,6 @@ count_is b = ap length (transitions_are b) ∙ length-map (picked b) (transition
 
 pub net_at : (b : List ℕ) (t : ℕ) → t < length (picked b) → transition (net_of b) t ≡ transition_at b (slice_index (picked b) t)
 net_at b t h = ap (λ xs. slice_index_or xs t idle) (transitions_are b) ∙ get_or-map (transition_at b) (picked b) t 0 idle h
-
-pub net_past : (b : List ℕ) (t : ℕ) → length (picked b) ≤ t → transition (net_of b) t ≡ idle
-net_past b t h = get_or_past (net_of b).transitions t idle (rw (count_is b) h)
 
 -- what the check has shown of a transition record
 pub record Found (b : List ℕ) (k : ℕ) : Type 0 where
