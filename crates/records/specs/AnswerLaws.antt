@@ -9,7 +9,7 @@ use Rattle.std.proofs.lemmas.Bool.{false≢true, and_parts, ltb-true, ne_eqb, ca
 use Rattle.net.specs.Meaning.{transition, count_of, tokens_on, total_of}
 use Rattle.records.specs.declared.record.Transition.{Transition as Read}
 use Rattle.records.specs.Layout.{record_size, record_at}
-use Rattle.records.specs.Entry.{moves, is_transition, below, targets_of, reading}
+use Rattle.records.specs.Entry.{moves, is_transition, below, reading}
 use Rattle.records.specs.File.{tokens_to, transition_of, net_of, picked}
 use Rattle.records.specs.TargetLaws.{sum_tokens}
 use Rattle.records.specs.FileLaws.{found, net_at, count_is, net_lawful}
@@ -41,11 +41,10 @@ module _ (b : List ℕ) (t : ℕ) (h : t < length (picked b)) where
   tells_some : (x : Read) → reading (record_at b (slice_index (picked b) t)) ≡ moves x.place x.label x.targets.now → Tells b t (Some x)
   tells_some x e =
       let n = (net_of b).places in
-      let r = record_at b (slice_index (picked b) t) in
       let ts = x.targets.now in
       let placed = (found b t h).placed in
       let is : transition_of n (moves x.place x.label ts) ≡ transition (net_of b) t = ap (transition_of n) (sym e) ∙ sym (net_at b t h) in
-      let same : targets_of r ≡ ts = cc (e, placed.move.is) in
+      let same : placed.move.targets ≡ ts = cc (e, placed.move.is) in
       let known : below n ts ≡ true = ap (below n) (sym same) ∙ placed.targets_known in
       let numbered : t < count_of (net_of b) = omega (arith, count_is b) in
       record {

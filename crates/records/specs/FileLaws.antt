@@ -1,6 +1,6 @@
 -- That the net of a file keeps the limits, and its answers as the code gives them.
 use Rattle.std.specs.Prelude.{◌≡◌, ℕ, zero, suc, ◌+◌, ◌%◌, ◌<◌, ◌≤◌, Bool, true, false, cond, List, [], ◌∷◌, ◌++◌, map, length, take, is_ok, Ok, Err, Result, ◌==◌, nat_lt, slice_index, slice_index_or, refl}
-use Rattle.std.proofs.Common.{arith, sym, ap, subst, ◌∙◌, length-append, length-take}
+use Rattle.std.proofs.Common.{arith, sym, ap, subst, ◌∙◌, length-append}
 use Rattle.std.proofs.lemmas.List.{get_or-map, length-map}
 use Rattle.std.proofs.lemmas.List.FromFn.{length-map-range_with_len}
 use Rattle.std.proofs.lemmas.Bool.{false≢true, and_parts, ltb-true}
@@ -10,8 +10,8 @@ use Rattle.net.specs.Refusals.{at_spot}
 use Rattle.net.specs.Meaning.{Transition, transition, idle, count_of, empty}
 use Rattle.net.specs.Limits.{Lawful, Within, most_places, most_transitions}
 use Rattle.records.specs.declared.counts.Counts.{Counts}
-use Rattle.records.specs.Layout.{record_size, record_count, record_at, at}
-use Rattle.records.specs.Entry.{Entry, declares, moves, holds, broken, is_transition, below, targets_of, reading}
+use Rattle.records.specs.Layout.{record_size, record_count, record_at}
+use Rattle.records.specs.Entry.{Entry, declares, moves, holds, broken, is_transition, below, reading}
 use Rattle.records.specs.Check.{counted, known, checked_to, checked, counts_of}
 use Rattle.records.specs.EntryLaws.{Moving, moving}
 use Rattle.records.specs.CheckLaws.{err_not_ok, Few, Before, before, counts_are, few_to, places_grow}
@@ -77,34 +77,33 @@ length_transition_records b (suc k) = go (length_transition_records b k) (is_tra
     go ih true e = omega (arith, length-append (transition_records b k) (k ∷ []))
     go ih false e = omega arith
 
--- a transition record over n places
-pub record Placed (r : List ℕ) (n : ℕ) : Type 0 where
-  pub move : Moving r
-  pub place_known : at r 1 < n
-  pub targets_known : below n (targets_of r) ≡ true
+-- a transition over n places
+pub record Placed (e : Entry) (n : ℕ) : Type 0 where
+  pub move : Moving e
+  pub place_known : move.place < n
+  pub targets_known : below n move.targets ≡ true
 
-placed_more : (r : List ℕ) (n m : ℕ) → n ≤ m → Placed r n → Placed r m
-placed_more r n m h p = record { move = p.move; place_known = omega (arith, p.place_known); targets_known = below_more n m (targets_of r) h p.targets_known }
+placed_more : (e : Entry) (n m : ℕ) → n ≤ m → Placed e n → Placed e m
+placed_more e n m h p = record { move = p.move; place_known = omega (arith, p.place_known); targets_known = below_more n m p.move.targets h p.targets_known }
 
-placed_by : (r : List ℕ) (c : Counts) → is_transition (reading r) ≡ true → known (reading r) c ≡ true → Placed r c.places
-placed_by r c h names =
-    let m = moving r h in
-    let both = and_parts (nat_lt (at r 1) c.places) (below c.places (targets_of r)) (subst (λ e. known e c ≡ true) m.is names) in
-    record { move = m; place_known = ltb-true (at r 1) c.places both.0; targets_known = both.1 }
+placed_by : (e : Entry) (c : Counts) → Moving e → known e c ≡ true → Placed e c.places
+placed_by e c m names =
+    let both = and_parts (nat_lt m.place c.places) (below c.places m.targets) (subst (λ e. known e c ≡ true) m.is names) in
+    record { move = m; place_known = ltb-true m.place c.places both.0; targets_known = both.1 }
 
-pub each_placed : (b : List ℕ) (k : ℕ) (c : Counts) → checked_to b k ≡ Ok c → (i : ℕ) → i < length (transition_records b k) → Placed (record_at b (slice_index (transition_records b k) i)) c.places
+pub each_placed : (b : List ℕ) (k : ℕ) (c : Counts) → checked_to b k ≡ Ok c → (i : ℕ) → i < length (transition_records b k) → Placed (reading (record_at b (slice_index (transition_records b k) i))) c.places
 each_placed b zero c h i l = absurd (omega arith)
 each_placed b (suc k) c h i l = let p = before b k c h in go p (each_placed b k p.counts p.reached) (is_transition (reading (record_at b k))) refl i l
   where
     grown : (p : Before b k c) → p.counts.places ≤ c.places
     grown p = subst (λ x. p.counts.places ≤ x.places) p.passed.after (places_grow (reading (record_at b k)) p.counts)
 
-    go : (p : Before b k c) → ((i : ℕ) → i < length (transition_records b k) → Placed (record_at b (slice_index (transition_records b k) i)) p.counts.places) → (v : Bool) → is_transition (reading (record_at b k)) ≡ v →
-        (i : ℕ) → i < length (cond v (transition_records b k ++ k ∷ []) (transition_records b k)) → Placed (record_at b (slice_index (cond v (transition_records b k ++ k ∷ []) (transition_records b k)) i)) c.places
+    go : (p : Before b k c) → ((i : ℕ) → i < length (transition_records b k) → Placed (reading (record_at b (slice_index (transition_records b k) i))) p.counts.places) → (v : Bool) → is_transition (reading (record_at b k)) ≡ v →
+        (i : ℕ) → i < length (cond v (transition_records b k ++ k ∷ []) (transition_records b k)) → Placed (reading (record_at b (slice_index (cond v (transition_records b k ++ k ∷ []) (transition_records b k)) i))) c.places
     go p all true e =
         let grow = grown p in
-        pushed (λ m. Placed (record_at b m) c.places) (transition_records b k) k (λ i l. placed_more _ p.counts.places c.places grow (all i l))
-        (placed_more (record_at b k) p.counts.places c.places grow (placed_by (record_at b k) p.counts e p.passed.names))
+        pushed (λ m. Placed (reading (record_at b m)) c.places) (transition_records b k) k (λ i l. placed_more _ p.counts.places c.places grow (all i l))
+        (placed_more (reading (record_at b k)) p.counts.places c.places grow (placed_by (reading (record_at b k)) p.counts (moving (record_at b k) e) p.passed.names))
     go p all false e = λ i l. placed_more _ p.counts.places c.places (grown p) (all i l)
 
 -- ## The net
@@ -129,7 +128,7 @@ net_at b t h = ap (λ xs. slice_index_or xs t idle) (transitions_are b) ∙ get_
 -- what the check has shown of a transition record
 pub record Found (b : List ℕ) (k : ℕ) : Type 0 where
   pub inside : k < record_count b
-  pub placed : Placed (record_at b k) (net_of b).places
+  pub placed : Placed (reading (record_at b k)) (net_of b).places
 
 pub found : (b : List ℕ) (t : ℕ) → t < length (picked b) → Found b (slice_index (picked b) t)
 found b t h = by_sound (sound b) refl h
@@ -141,19 +140,16 @@ found b t h = by_sound (sound b) refl h
         record { inside = record_below b (record_count b) t h; placed = subst (Placed _) n_is (each_placed b (record_count b) a.counts a.all t h) }
     by_sound false e h = absurd (omega arith)
 
-targets_few : (r : List ℕ) → length (targets_of r) ≤ at r 3
-targets_few r = simp length-take (omega arith)
-
 within : (b : List ℕ) (k : ℕ) → Found b k → Within (net_of b).places (transition_at b k)
 within b k f =
-    let r = record_at b k in
     let n = (net_of b).places in
     let p = f.placed in
+    let ts = p.move.targets in
     subst (λ e. Within n (transition_of n e)) (sym p.move.is) (record {
       place_known = p.place_known;
       label_small = p.move.label_small;
-      targets_known = length-map-range_with_len (tokens_to (targets_of r)) 0 n;
-      total_small = omega (arith, sum_tokens n (targets_of r) p.targets_known, targets_few r, p.move.total_small);
+      targets_known = length-map-range_with_len (tokens_to ts) 0 n;
+      total_small = omega (arith, sum_tokens n ts p.targets_known, p.move.few);
     })
 
 limits : (b : List ℕ) → ((net_of b).places ≤ most_places) × (length (picked b) ≤ most_transitions)

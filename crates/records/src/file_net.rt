@@ -14,7 +14,7 @@ use crate::index::index_of;
 use crate::layout::RECORD_SIZE;
 use crate::record::{Transition, record_at};
 use crate::targets::tokens_to;
-use crate::tokens::{Tokens, tokens_in};
+use crate::tokens::Tokens;
 use net::{MOST_TRANSITIONS, Net};
 
 // The transitions are read on demand; what is kept beside the bytes is where their records stand.
@@ -64,7 +64,7 @@ impl<'a> FileNet<'a> {
         if k >= self.size {
             return None;
         }
-        tokens_in(record_at(self.bytes, k))
+        Tokens::read(record_at(self.bytes, k))
     }
 
     // The empty net of bytes that the check refuses.

@@ -38,7 +38,16 @@ fn transition_record<N: Net>(net: &N, t: usize) -> [u8; RECORD_SIZE]
 {
     let place = net.place(t) as u8;
     let [first, second, third, fourth] = targets_of(net, t);
-    [TRANSITION_KIND, place, net.label(t), net.total(t), first, second, third, fourth]
+    [
+        TRANSITION_KIND,
+        place,
+        net.label(t),
+        net.total(t),
+        first,
+        second,
+        third,
+        fourth,
+    ]
 }
 
 // Record k of a net's file: the places come first, then the transitions.

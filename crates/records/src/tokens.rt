@@ -9,18 +9,21 @@ use crate::record::Record;
 // So many tokens on a place of a side, 0 for the left crew and 1 for the right.
 #[derive(Clone, Copy, PartialEq, Eq, Debug)]
 pub struct Tokens {
+    // Kept: the side is a number, since the calls that take it have a refusal for one above 1.
     pub side: usize,
     pub place: usize,
     pub count: usize,
 }
 
-// The tokens that a record puts, if it is a token record.
-pub(crate) fn tokens_in(bytes: &[u8]) -> Option<Tokens>
-    requires { length bytes.now ≡ record_size }
-    ensures { result ≡ tokens_said (reading bytes.now) }
-{
-    match Record::read(bytes)? {
-        Record::Tokens(tokens) => Some(tokens),
-        _ => None,
+impl Tokens {
+    // The tokens that a record puts, if it is a token record.
+    pub(crate) fn read(bytes: &[u8]) -> Option<Tokens>
+        requires { length bytes.now ≡ record_size }
+        ensures { result ≡ tokens_said (reading bytes.now) }
+    {
+        match Record::read(bytes)? {
+            Record::Tokens(tokens) => Some(tokens),
+            _ => None,
+        }
     }
 }
