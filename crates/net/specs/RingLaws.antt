@@ -1,13 +1,13 @@
 -- What a ring's transitions are, that it keeps the limits, and its answers as the code gives them.
-use Rattle.std.specs.Prelude.{◌≡◌, ℕ, ◌+◌, ◌%◌, ◌<◌, ◌≤◌, true, false, cond, length, ◌≢◌, refl}
+use Rattle.std.specs.Prelude.{◌≡◌, ℕ, ◌+◌, ◌%◌, ◌<◌, ◌≤◌, length, ◌≢◌, refl}
 use Rattle.std.proofs.Common.{mod-lt, arith, sym, ap, subst, ◌∙◌, length-set, get_or-set_same, get_or-set_other}
 use Rattle.std.proofs.lemmas.List.{get_or_past, length-replicate}
 use Rattle.std.proofs.lemmas.List.FromFn.{length-map-range_with_len, get_or-map-range_with_len}
 use Rattle.std.proofs.lemmas.List.Sums.{sum_by-set}
-use Rattle.net.specs.Meaning.{transition, idle, count_of, tokens_on, total_of, empty}
+use Rattle.net.specs.Meaning.{transition, idle, count_of, tokens_on, total_of}
 use Rattle.net.specs.Limits.{Lawful, Within, most_places, most_label}
 use Rattle.net.specs.Lists.{zeros, get_or_zeros, sum_zeros}
-use Rattle.net.specs.Rings.{onward, circle, ring, ring_fits}
+use Rattle.net.specs.Rings.{onward, circle}
 
 next_within : (k i : ℕ) → i < k → (i + 1) % k < length (zeros k)
 next_within k i h = rw length-replicate (mod-lt (i + 1) (omega arith))
@@ -47,13 +47,6 @@ circle_lawful k label few small = record {
       let lt : t < k = rw (length_circle k label) at h in
       subst (Within k) (sym (circle_at k label t lt)) (onward_within k label t small lt);
 }
-
--- a ring that keeps the limits is the circle, and any other is empty
-pub ring_fit : (k label : ℕ) → ring_fits k label ≡ true → circle k label ≡ ring k label
-ring_fit k label e = sym (ap (λ v. cond v (circle k label) empty) e)
-
-pub ring_unfit : (k label : ℕ) → ring_fits k label ≡ false → empty ≡ ring k label
-ring_unfit k label e = sym (ap (λ v. cond v (circle k label) empty) e)
 
 -- ## The six answers
 

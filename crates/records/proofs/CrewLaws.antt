@@ -1,9 +1,9 @@
 -- The crews of a file grow by its token records, and hold what the check has counted.
-use Rattle.std.proofs.Common.{◌≡◌, ℕ, zero, suc, ◌+◌, ◌<◌, ◌≤◌, Bool, true, false, cond, ◌&&◌, eqb, leb, List, [], map, length, get_or, drop, set, IfSome, is_ok, IfOk, None, Ok, Err, sum, Option, Result, sym, refl, ap, ◌∙◌, subst, ⊎_elim, add-one, arith, length-set, get_or-set_other, get_or-set_same}
+use Rattle.std.proofs.Common.{◌≡◌, ℕ, zero, suc, ◌+◌, ◌<◌, ◌≤◌, Bool, true, false, cond, ◌&&◌, eqb, leb, List, [], map, length, get_or, drop, set, IfSome, is_ok, IfOk, Ok, Err, sum, Option, Result, sym, refl, ap, ◌∙◌, subst, ⊎_elim, add-one, arith, length-set, get_or-set_other, get_or-set_same}
 use lib.ListN.{length-replicate}
 use Rattle.std.specs.List.{range_with_len}
 use Rattle.std.proofs.lemmas.List.FromFn.{fill_by_all, length-map-range_with_len, get_or-map-range_with_len}
-use Rattle.std.proofs.lemmas.Bool.{and_parts, leb-true, ltb-true, lt-ltb, le-ltb, eq-eqb, ne_eqb, cases_eq}
+use Rattle.std.proofs.lemmas.Bool.{and_parts, leb-true, ltb-true, eq-eqb, ne_eqb, cases_eq}
 use Rattle.net.specs.declared.refusal.Fault.{Fault}
 use Rattle.net.specs.Meaning.{empty}
 use Rattle.net.specs.Limits.{most_tokens}
@@ -18,7 +18,7 @@ use Rattle.records.specs.File.{sound, admitted_records, declared_places, declare
 use Rattle.records.specs.TargetLaws.{over, over_none, over_add, over_only, only}
 use Rattle.records.specs.FileLaws.{Admits, admits, checked_all, count_is, length_transition_records}
 use Rattle.records.specs.Tokens.{tokens_said}
-use Rattle.records.specs.Crews.{added, held, crew_after, token_record, with_tokens, LawfulPut, Put, Measures}
+use Rattle.records.specs.Crews.{added, held, crew_after, with_tokens, LawfulPut, Put, Measures}
 
 -- ## Lists made by a function of the place
 
@@ -164,12 +164,6 @@ admitted_sound b k h = by_sound (sound b) refl h
 
 pub put_of : (b : List ℕ) (k : ℕ) (r : Option Tokens) → r ≡ tokens_said (reading (record_at b k)) → k < admitted_records b → Put b k r
 put_of b k r e h = let in_file = admitted_sound b k h in subst (Put b k) (sym e) (put_at b in_file.0 k in_file.1)
-
-pub token_in : (b : List ℕ) (k : ℕ) (r : Option Tokens) → r ≡ tokens_said (reading (record_at b k)) → k < admitted_records b → r ≡ token_record b k
-token_in b k r e h = e ∙ sym (ap (λ v. cond v (tokens_said (reading (record_at b k))) None) (lt-ltb k (admitted_records b) h))
-
-pub token_out : (b : List ℕ) (k : ℕ) → admitted_records b ≤ k → None ≡ token_record b k
-token_out b k h = sym (ap (λ v. cond v (tokens_said (reading (record_at b k))) None) (le-ltb k (admitted_records b) h))
 
 measures : (b : List ℕ) (c : Counts) → Ok c ≡ checked b → Measures b c
 measures b c h =

@@ -142,9 +142,8 @@ transition_written n t w =
 
 -- ## A loop over the places
 
-pub loop_room : (m : Meaning) → Lawful m → (t p n used count width : ℕ) → t < count_of m → total_of (transition m t) ≤ width → n ≡ m.places → p < n → used ≡ length (spread (transition m t) p) → count ≡ tokens_on (transition m t) p → used + count ≤ width
-loop_room m law t p n used count width l fits n_is h used_is count_is =
-    omega (arith, spread_room m.places p width (transition m t) (law.each t l) fits (omega arith))
-
-pub place_fits : (m : Meaning) → Lawful m → (t place : ℕ) → t < count_of m → place ≡ (transition m t).place → place < 256
-place_fits m law t place l e = omega (arith, (law.each t l).place_known, law.few_places)
+-- a record has room for the targets on one place more
+pub loop_room : (m : Meaning) → Lawful m → (t p n used count : ℕ) → t < count_of m → n ≡ m.places → p < n → used ≡ length (spread (transition m t) p) → count ≡ tokens_on (transition m t) p → used + count ≤ record_targets
+loop_room m law t p n used count l n_is h used_is count_is =
+    let within = law.each t l in
+    omega (arith, spread_room m.places p record_targets (transition m t) within within.total_small (omega arith))

@@ -1,13 +1,13 @@
 -- What follows where the check has come past a record.
-use Rattle.std.specs.Prelude.{◌≡◌, ℕ, zero, suc, ◌+◌, ◌-◌, ◌*◌, ◌<◌, ◌≤◌, Bool, true, false, cond, List, length, Ok, Err, Result, ◌==◌, nat_le, nat_lt, refl}
-use Rattle.std.proofs.Common.{add-zero, add-suc, add-one, arith, sym, ap, subst, ◌∙◌, ⊎_elim, length-take, length-drop}
+use Rattle.std.specs.Prelude.{◌≡◌, ℕ, zero, suc, ◌+◌, ◌-◌, ◌<◌, ◌≤◌, Bool, true, false, cond, List, Ok, Err, Result, ◌==◌, nat_le, nat_lt, refl}
+use Rattle.std.proofs.Common.{add-zero, add-suc, add-one, arith, sym, ap, subst, ◌∙◌, ⊎_elim}
 use Rattle.std.proofs.lemmas.Bool.{and_parts, ltb-true, leb-true, cases_lt}
 use Rattle.net.specs.declared.refusal.Refusal.{Refusal}
 use Rattle.net.specs.declared.refusal.Refusal.TheVariants.{MalformedRecord, UndeclaredPlace, OverLimit, TooManyTokens}
 use Rattle.net.specs.declared.refusal.Fault.{Fault}
 use Rattle.net.specs.Limits.{most_places, most_transitions, most_tokens}
 use Rattle.records.specs.declared.counts.Counts.{Counts}
-use Rattle.records.specs.Layout.{record_size, most_records, record_at}
+use Rattle.records.specs.Layout.{most_records, record_at}
 use Rattle.records.specs.Entry.{Entry, declares, moves, holds, broken, reading}
 use Rattle.records.specs.Check.{nothing, counted, well_formed, known, roomy, light, unless, admit, then, checked_to, counts_of}
 
@@ -160,6 +160,3 @@ module _ (b : List ℕ) where
   -- one record more, as a loop counts and reads it
   pub checked_to_more : (k : ℕ) (c : Counts) (r : List ℕ) (result : Result Counts Fault) → checked_to b k ≡ Ok c → r ≡ record_at b k → result ≡ admit (reading r) k c → checked_to b (k + 1) ≡ result
   checked_to_more k c r result h read is = rw (add-one, h) (sym (is ∙ ap (λ x. admit (reading x) k c) read))
-
-  pub length_record : (k : ℕ) → record_size * k + record_size ≤ length b → length (record_at b k) ≡ record_size
-  length_record k h = simp (length-take, length-drop) (omega arith)

@@ -1,10 +1,11 @@
 // A net written as a record file.
 ghost use Rattle.std.specs.Prelude.{◌≡◌, ◌<◌, ◌≤◌, length, take, MatchResult};
 ghost use Rattle.net.specs.Meaning.{transition, count_of, total_of};
+ghost use Rattle.records.specs.Layout.{record_targets};
 ghost use Rattle.records.specs.File.{net_of};
 ghost use Rattle.records.specs.Write.{spread, filled, place_record, transition_record, record_of, records_of, write_answer, write_after};
 
-use crate::layout::{HEAD_SIZE, NO_TARGET, PLACE_KIND, RECORD_SIZE, TRANSITION_KIND};
+use crate::layout::{NO_TARGET, PLACE_KIND, RECORD_SIZE, RECORD_TARGETS, TRANSITION_KIND};
 use net::{Fault, Net, Refusal};
 
 // The record that declares a place.
@@ -14,18 +15,20 @@ fn place_record(number: u8) -> [u8; RECORD_SIZE]
     [PLACE_KIND, number, 0, 0, 0, 0, 0, 0]
 }
 
-// Writes the targets of transition t in rising order, and no targets behind them.
-fn put_targets<N: Net>(net: &N, t: usize, targets: &mut [u8])
-    requires { (t < count_of (N.Net.meaning net.now)) × (total_of (transition (N.Net.meaning net.now) t) ≤ length targets.old) }
-    ensures { targets.new ≡ filled (length targets.old) (spread (transition (N.Net.meaning net.now) t) (N.Net.meaning net.now).places) }
+// The targets of transition t in rising order, and no targets behind them.
+fn targets_of<N: Net>(net: &N, t: usize) -> [u8; RECORD_TARGETS]
+    requires { t < count_of (N.Net.meaning net.now) }
+    ensures { result ≡ filled record_targets (spread (transition (N.Net.meaning net.now) t) (N.Net.meaning net.now).places) }
 {
-    targets.fill(NO_TARGET);
+    let mut targets = [NO_TARGET; RECORD_TARGETS];
     let mut used = 0;
+    // Kept: the targets are written by index, since a contract knows no element of an array behind the borrow of `iter_mut`.
     for p in 0..net.places() {
-        let count = net.tokens(t, p) as usize;
+        let count = usize::from(net.tokens(t, p));
         targets[used..used + count].fill(p as u8);
         used += count;
     }
+    targets
 }
 
 // The record of transition t.
@@ -33,13 +36,18 @@ fn transition_record<N: Net>(net: &N, t: usize) -> [u8; RECORD_SIZE]
     requires { t < count_of (N.Net.meaning net.now) }
     ensures { result ≡ transition_record (N.Net.meaning net.now).places (transition (N.Net.meaning net.now) t) }
 {
-    let mut bytes = [0u8; RECORD_SIZE];
-    bytes[0] = TRANSITION_KIND;
-    bytes[1] = net.place(t) as u8;
-    bytes[2] = net.label(t);
-    bytes[3] = net.total(t);
-    put_targets(net, t, &mut bytes[HEAD_SIZE..]);
-    bytes
+    let place = net.place(t) as u8;
+    let [first, second, third, fourth] = targets_of(net, t);
+    [
+        TRANSITION_KIND,
+        place,
+        net.label(t),
+        net.total(t),
+        first,
+        second,
+        third,
+        fourth,
+    ]
 }
 
 // Record k of a net's file: the places come first, then the transitions.
@@ -66,6 +74,7 @@ pub fn write<N: Net>(net: &N, out: &mut [u8]) -> Result<usize, Fault>
     if out.len() < RECORD_SIZE * count {
         return Err(Fault::plain(Refusal::ShortList));
     }
+    // Kept: the records are written by index, since a contract knows no element of a slice behind the borrow of `chunks_exact_mut`.
     for k in 0..count {
         let bytes = record_of(net, k);
         out[RECORD_SIZE * k..RECORD_SIZE * k + RECORD_SIZE].copy_from_slice(&bytes);

@@ -8,9 +8,6 @@ pub(crate) const TRANSITION_KIND: u8 = 2;
 
 pub(crate) const TOKENS_KIND: u8 = 3;
 
-// The bytes of a transition record before its targets: kind, place, label, total.
-pub(crate) const HEAD_SIZE: usize = 4;
-
 // The targets that a transition record has room for.
 pub(crate) const RECORD_TARGETS: usize = 4;
 
@@ -18,3 +15,6 @@ pub(crate) const RECORD_TARGETS: usize = 4;
 pub(crate) const NO_TARGET: u8 = 255;
 
 pub const MOST_RECORDS: usize = 2048;
+
+// The front of a file that is enough to judge it by: one record more than a file may have.
+pub const MOST_BYTES: usize = RECORD_SIZE * (MOST_RECORDS + 1);

@@ -8,10 +8,11 @@ use Rattle.records.proofs.CrewLaws.{measured}
 use Rattle.records.proofs.Verdicts.{means, reasons_rise}
 use Rattle.records.proofs.file_check.check.Goals as goal
 
-pub admit-requires : goal.admit-requires
-admit-requires c =
-    let few = few_to c.args.bytes.now c.loop-k.k c.loop-k.seen c.loop-k.invariant in
-    (c.record_at.ensures.size, (few.few_left, few.few_right))
+pub admit-requires-clause-left : goal.admit-requires-clause-left
+admit-requires-clause-left c = (few_to c.args.bytes.now c.loop-k.k c.loop-k.seen c.loop-k.invariant).few_left
+
+pub admit-requires-clause-right : goal.admit-requires-clause-right
+admit-requires-clause-right c = (few_to c.args.bytes.now c.loop-k.k c.loop-k.seen c.loop-k.invariant).few_right
 
 pub loop-k-preserved : goal.loop-k-preserved
 loop-k-preserved c =

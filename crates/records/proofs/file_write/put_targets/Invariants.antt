@@ -1,7 +1,0 @@
-use Rattle.std.proofs.Common.{◌≡◌, length}
-use Rattle.net.specs.Meaning.{transition}
-use Rattle.records.specs.Write.{spread, filled}
-use Rattle.records.proofs.file_write.put_targets.Given as goal
-
-abbrev pub invariant-loop-p : goal.invariant-loop-p
-invariant-loop-p g l = (l.targets ≡ filled (length l.initial.targets) (spread (transition (g.N.Net.meaning l.net) l.t) l.p)) × (l.used ≡ length (spread (transition (g.N.Net.meaning l.net) l.t) l.p))

@@ -1,8 +1,0 @@
-use Rattle.std.proofs.Common.{◌<◌, rules}
-use Rattle.records.proofs.Spreads.{place_fits}
-use Rattle.records.proofs.file_write.transition_record.Goals as goal
-
-pub overflow_cast-bytes : goal.overflow_cast-bytes
-overflow_cast-bytes g c =
-    let small : c.place.result < 256 = place_fits (g.N.Net.meaning c.args.net.now) (g.N.Net.lawful c.args.net.now) c.args.t c.place.result c.requires c.place.ensures in
-    search rules
