@@ -8,3 +8,4 @@ pub mod Counting
 pub mod Following
 pub mod Verdicts
 pub mod Compares
+pub mod Texts

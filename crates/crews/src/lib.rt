@@ -11,6 +11,7 @@ mod pairing;
 mod runs;
 mod search;
 mod swap;
+mod texts;
 
 pub use bench::Bench;
 pub use call::{Answer, Call};
