@@ -3,6 +3,7 @@ pub mod Limits
 pub mod Lists
 pub mod Markings
 pub mod Refusals
+pub mod Texts
 pub mod Rings
 pub mod RingLaws
 pub mod Joins

@@ -1,6 +1,9 @@
 // Why a call is refused. A call tries its refusals in the order of their numbers and gives the first that is met.
-ghost use Rattle.std.specs.Prelude.{◌≡◌};
+ghost use Rattle.std.specs.Prelude.{◌≡◌, Some};
 ghost use Rattle.net.specs.Refusals.{number_of, plain as plain_fault, at_spot as fault_at};
+ghost use Rattle.net.specs.Texts.{fault_text};
+
+use std::fmt;
 
 #[derive(Clone, Copy, PartialEq, Eq, Debug)]
 pub enum Refusal {
@@ -34,6 +37,7 @@ pub enum Refusal {
 
 impl Refusal {
     // The number by which users know the refusal.
+    // Kept: `u8::from(refusal)` would be no plainer than the name `number`.
     pub fn number(self) -> u8
         ensures { result ≡ number_of self }
     {
@@ -66,6 +70,19 @@ impl Fault {
         Fault {
             refusal,
             spot: Some(spot),
+        }
+    }
+}
+
+// A fault is written as the number of its refusal, and behind it the spot where one is named.
+impl fmt::Display for Fault {
+    ghost output = { λ fault. Some (fault_text fault) };
+
+    fn fmt<W: fmt::Write>(&self, f: &mut fmt::Formatter<W>) -> fmt::Result {
+        let number = self.refusal.number();
+        match self.spot {
+            Some(spot) => write!(f, "{number} {spot}"),
+            None => write!(f, "{number}"),
         }
     }
 }

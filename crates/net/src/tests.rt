@@ -1,4 +1,15 @@
 use super::*;
+use std::test::Fail;
+
+// A fault is written as its number, with the spot behind it where one is named.
+#[test]
+fn faults_are_written(rt: HostRuntime) -> Result<(), Fail> {
+    let plain = Fault::plain(Refusal::UnknownLine).to_string(rt.alloc())?;
+    assert_eq!(rt; plain.as_str(), "13");
+    let at = Fault::at(Refusal::OverLimit, 2048).to_string(rt.alloc())?;
+    assert_eq!(rt; at.as_str(), "4 2048");
+    Ok(())
+}
 
 // A ring has as many places as it was asked for, up to the limits, and none beyond them.
 #[test]

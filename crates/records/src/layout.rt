@@ -18,3 +18,6 @@ pub(crate) const RECORD_TARGETS: usize = 4;
 pub(crate) const NO_TARGET: u8 = 255;
 
 pub const MOST_RECORDS: usize = 2048;
+
+// The front of a file that is enough to judge it by: one record more than a file may have.
+pub const MOST_BYTES: usize = RECORD_SIZE * (MOST_RECORDS + 1);

@@ -15,5 +15,5 @@ pub use counts::Counts;
 pub use file_check::check;
 pub use file_net::FileNet;
 pub use file_write::write;
-pub use layout::{MOST_RECORDS, RECORD_SIZE};
+pub use layout::{MOST_BYTES, MOST_RECORDS, RECORD_SIZE};
 pub use tokens::Tokens;
