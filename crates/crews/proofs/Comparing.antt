@@ -12,7 +12,7 @@ use Rattle.crews.specs.Counting.{DiffersAt, Found}
 use Rattle.crews.specs.Swaps.{swap_list}
 use Rattle.crews.specs.Pairs.{table_of}
 use Rattle.crews.specs.Tally.{alike, apart, refused}
-use Rattle.crews.specs.Shows.{Shows, Steps, said_or}
+use Rattle.crews.specs.Shows.{Shows, Steps, answer_of, verdict_answer}
 use Rattle.crews.specs.Verdicts.{AlikeBy}
 use Rattle.crews.specs.Compares.{Written, Unwritten, Compared}
 use Rattle.crews.specs.declared.bench.Bench.{Bench}
@@ -49,7 +49,7 @@ module _ {N : Type 0} (m : Meaning) (b : Bench N) (law : Lawful m) (cs : List �
 
 -- a comparison into the first entries of a list of 256 is one into a list with that room
 pub said_steps : {N : Type 0} (m : Meaning) (b : Bench N) (room : ℕ) (r : Result Verdict Fault) (before after rest entries : List Swap) → m.places ≤ 128 → length before ≡ min room 256
-    → entries ≡ after ++ rest → Compared m b before after r → Steps m b (Compare room) (said_or r entries) b
+    → entries ≡ after ++ rest → Compared m b before after r → Steps m b (Compare room) (answer_of (verdict_answer entries) r) b
 said_steps m b room (Ok (Alike used)) before after rest entries few e ee says c shows =
     let s = says c shows in
     let front : take used entries ≡ s.list =
