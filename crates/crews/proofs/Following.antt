@@ -16,7 +16,7 @@ use Rattle.crews.specs.Crews.{Crews, on_side, across, both}
 use Rattle.crews.specs.Calls.{not_ready}
 use Rattle.crews.specs.Counting.{DiffersAt, Found}
 use Rattle.crews.specs.Following.{unlike, overfull, followed, FitsBy}
-use Rattle.crews.specs.Tally.{followed_by}
+use Rattle.crews.specs.Tally.{Step, followed_by}
 use Rattle.crews.specs.Shows.{Holds, Shows, Steps, Ready, table_on, with_table}
 use Rattle.crews.specs.declared.bench.Bench.{Bench}
 use Rattle.crews.specs.declared.crew.Crew.{Crew}
@@ -58,7 +58,7 @@ shows_both m b b' s x w xs ys l eb hx hw = subst (λ a. Shows m a (both s xs ys)
         let e : s ≡ 1 = omega arith in
         subst (λ (k : ℕ). Shows m (with_table (with_table b k x) (1 - k) w) (both k xs ys)) (sym e) (record { left = hw; right = hx })
 
-pub both_net : {N : Type 0} (b b' : Bench N) (s : ℕ) (x w : Crew) → b' ≡ with_table (with_table b s x) (1 - s) w → b'.net ≡ b.net
+both_net : {N : Type 0} (b b' : Bench N) (s : ℕ) (x w : Crew) → b' ≡ with_table (with_table b s x) (1 - s) w → b'.net ≡ b.net
 both_net {N} b b' s x w eb = ap (λ a. a.net) eb ∙ by_sides (eqb s 0) (eqb (1 - s) 0)
   where
     by_sides : (v v' : Bool)
@@ -185,14 +185,17 @@ module _ {N : Type 0} (m : Meaning) (b : Bench N) (s t : ℕ) (y z : Crew) (law 
 
       pub follow_steps : (b' : Bench N) (x w : Crew) → b' ≡ with_table (with_table b s x) (1 - s) w → x.counts ≡ fired m t y.counts → w.counts ≡ fired m u z.counts
           → sum (fired m t y.counts) ≤ 4096 → Steps m b (Follow s t) (Ok (Followed u)) b'
-      follow_steps b' x w eb ex ew few c h =
-          let holds_w : Holds m.places w.counts (fired m u (across c s)) =
-          subst (λ xs. Holds m.places xs (fired m u (across c s))) (sym ew)
-          (holds_fired m u z.counts (across c s) law fits.known (shows_across m b s z c ready.side_known ez h)) in (
-            followed m c s t u,
-            shows_both m b b' s x w (fired m t (on_side c s)) (fired m u (across c s)) ready.side_known eb (holds_after m b s t y law ready x c h ex) holds_w,
-            followed_by s t u
-                (free_append (not_ready m c s t) (unlike m c ++ overfull m c s t) (free_ready m b s t y law ready c h)
-                (free_append (unlike m c) (overfull m c s t) (free_unlike c h) (free_overfull few c h)))
-                (answered m law c s t (paired_shown c h) ready.known (enabled_shown c h) u (fits_shown c h)),
-          )
+      follow_steps b' x w eb ex ew few = record { same = both_net b b' s x w eb; leads = λ c h. (followed m c s t u, shown c h, step c h) }
+        where
+          shown : (c : Crews) → Shows m b c → Shows m b' (followed m c s t u)
+          shown c h =
+              shows_both m b b' s x w (fired m t (on_side c s)) (fired m u (across c s)) ready.side_known eb (holds_after m b s t y law ready x c h ex)
+              (subst (λ xs. Holds m.places xs (fired m u (across c s))) (sym ew)
+              (holds_fired m u z.counts (across c s) law fits.known (shows_across m b s z c ready.side_known ez h)))
+
+          step : (c : Crews) → Shows m b c → Step m c (Follow s t) (Ok (Followed u)) (followed m c s t u)
+          step c h =
+              followed_by s t u
+              (free_append (not_ready m c s t) (unlike m c ++ overfull m c s t) (free_ready m b s t y law ready c h)
+              (free_append (unlike m c) (overfull m c s t) (free_unlike c h) (free_overfull few c h)))
+              (answered m law c s t (paired_shown c h) ready.known (enabled_shown c h) u (fits_shown c h))

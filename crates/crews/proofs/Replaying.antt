@@ -12,7 +12,7 @@ use Rattle.crews.specs.declared.call.Answer.{Answer}
 
 pub extends : {N : Type 0} (m : Meaning) (b : Bench N) (call : Call) (a : Result Answer Fault) (b' : Bench N) → Steps m b call a b' → Extends m b call a b'
 extends m b call a b' steps es c run shows =
-    let led = steps c shows in
+    let led = steps.leads c shows in
     (led.0, led.1, then (record { call = call; answer = a }) run led.2)
 
 pub events_push : (calls : List Call) (answers : List (Result Answer Fault)) (c : Call) (a : Result Answer Fault) → length calls ≡ length answers

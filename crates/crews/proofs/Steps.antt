@@ -1,5 +1,5 @@
 -- How each call of the bench ends.
-use Rattle.std.proofs.Common.{◌≡◌, ℕ, ◌+◌, ◌-◌, ◌<◌, ◌≤◌, List, ◌++◌, length, get_or, set, Ok, Err, sum, sym, ap, ◌∙◌, subst, inl, arith}
+use Rattle.std.proofs.Common.{◌≡◌, ℕ, ◌+◌, ◌-◌, ◌<◌, ◌≤◌, List, ◌++◌, length, get_or, set, Ok, Err, sum, sym, refl, ap, ◌∙◌, subst, inl, arith}
 use Rattle.net.specs.Meaning.{Meaning, transition, count_of, total_of}
 use Rattle.net.specs.Limits.{Lawful}
 use Rattle.net.specs.Markings.{more, fewer, fired}
@@ -17,7 +17,7 @@ use Rattle.crews.specs.declared.crew.Crew.{Crew}
 use Rattle.crews.specs.declared.call.Call.{Call}
 use Rattle.crews.specs.declared.call.Call.TheVariants.{Put, Take, Fire, Follow, Count, Compare}
 use Rattle.crews.specs.declared.call.Answer.TheVariants.{Done, Tokens}
-use Rattle.crews.proofs.Tables.{holds_get_or, holds_sum, holds_set, holds_fired, shows_side, shows_with}
+use Rattle.crews.proofs.Tables.{holds_get_or, holds_sum, holds_set, holds_fired, shows_side, shows_with, with_table_net}
 
 pub tried_in_order : TriedInOrder
 tried_in_order m c (Put s p k) = (omega arith, (omega arith, (omega arith, tt)))
@@ -30,7 +30,7 @@ tried_in_order m c (Count s p) = (omega arith, (omega arith, tt))
 -- ## Refused
 
 pub stays : {N : Type 0} (m : Meaning) (b : Bench N) (call : Call) (f : Fault) → ((c : Crews) → Shows m b c → First (Meets m c call) f) → Steps m b call (Err f) b
-stays m b call f first c h = (c, h, refused f (first c h))
+stays m b call f first = record { same = refl; leads = λ c h. (c, h, refused f (first c h)) }
 
 below : {n s i : ℕ} → Free (unknown n s i) → i < n
 below free = omega (arith, free.1.0)
@@ -71,12 +71,16 @@ module _ {N : Type 0} (m : Meaning) (b : Bench N) (s : ℕ) (y : Crew) (ey : y �
 
   pub put_steps : (b' : Bench N) (x : Crew) (p k : ℕ) → b' ≡ with_table b s x → x.counts ≡ more y.counts p k → Free (unknown m.places s p) → sum y.counts + k ≤ 4096
       → Steps m b (Put s p k) (Ok Done) b'
-  put_steps b' x p k eb e free few c h =
-      let l = below free in (
-        with_side c s (more (on_side c s) p k),
-        shows_set b' x p (get_or y.counts p 0 + k) (get_or (on_side c s) p 0 + k) c eb e (omega (arith, same_get_or p c l h)) l h,
-        put s p k (free_append (unknown m.places s p) (crowded (more (on_side c s) p k)) free ((λ q. omega (arith, q, few, sum_with p k c l h)), tt)),
-      )
+  put_steps b' x p k eb e free few =
+      let l = below free in
+      record {
+        same = with_table_net b b' s x eb;
+        leads = λ c h. (
+          with_side c s (more (on_side c s) p k),
+          shows_set b' x p (get_or y.counts p 0 + k) (get_or (on_side c s) p 0 + k) c eb e (omega (arith, same_get_or p c l h)) l h,
+          put s p k (free_append (unknown m.places s p) (crowded (more (on_side c s) p k)) free ((λ q. omega (arith, q, few, sum_with p k c l h)), tt)),
+        );
+      }
 
   -- ### Take
 
@@ -87,19 +91,24 @@ module _ {N : Type 0} (m : Meaning) (b : Bench N) (s : ℕ) (y : Crew) (ey : y �
 
   pub take_steps : (b' : Bench N) (x : Crew) (p k : ℕ) → b' ≡ with_table b s x → x.counts ≡ fewer y.counts p k → Free (unknown m.places s p) → k ≤ get_or y.counts p 0
       → Steps m b (Take s p k) (Ok Done) b'
-  take_steps b' x p k eb e free enough c h =
+  take_steps b' x p k eb e free enough =
       let l = below free in
-      let same = same_get_or p c l h in (
-        with_side c s (fewer (on_side c s) p k),
-        shows_set b' x p (get_or y.counts p 0 - k) (get_or (on_side c s) p 0 - k) c eb e (omega (arith, same)) l h,
-        taken s p k (free_append (unknown m.places s p) (lacking (on_side c s) p k) free ((λ q. omega (arith, q, enough, same)), tt)),
-      )
+      record {
+        same = with_table_net b b' s x eb;
+        leads = λ c h. (
+          with_side c s (fewer (on_side c s) p k),
+          shows_set b' x p (get_or y.counts p 0 - k) (get_or (on_side c s) p 0 - k) c eb e (omega (arith, same_get_or p c l h)) l h,
+          taken s p k (free_append (unknown m.places s p) (lacking (on_side c s) p k) free ((λ q. omega (arith, q, enough, same_get_or p c l h)), tt)),
+        );
+      }
 
   -- ### Count
 
   pub count_steps : (p k : ℕ) → k ≡ get_or y.counts p 0 → Free (unknown m.places s p) → Steps m b (Count s p) (Ok (Tokens k)) b
-  count_steps p k e free c h =
-      (c, h, subst (λ (j : ℕ). Step m c (Count s p) (Ok (Tokens j)) c) (sym (e ∙ same_get_or p c (below free) h)) (counted s p free))
+  count_steps p k e free = record {
+    same = refl;
+    leads = λ c h. (c, h, subst (λ (j : ℕ). Step m c (Count s p) (Ok (Tokens j)) c) (sym (e ∙ same_get_or p c (below free) h)) (counted s p free));
+  }
 
 -- ## A transition that may fire: y is the table on its side
 
@@ -139,8 +148,11 @@ module _ {N : Type 0} (m : Meaning) (b : Bench N) (s t : ℕ) (y : Crew) (law : 
       (λ c h. first_back (not_ready m c s t) (crowded (fired m t (on_side c s))) f (free_ready c h) (inl (omega (arith, many, sum_side c h), sym ef)))
 
   pub fire_steps : (b' : Bench N) (x : Crew) → b' ≡ with_table b s x → x.counts ≡ fired m t y.counts → sum (fired m t y.counts) ≤ 4096 → Steps m b (Fire s t) (Ok Done) b'
-  fire_steps b' x eb e few c h = (
-    with_side c s (fired m t (on_side c s)),
-    shows_with m b b' s x c (fired m t (on_side c s)) eb h (holds_after x c h e),
-    moved s t (free_append (not_ready m c s t) (crowded (fired m t (on_side c s))) (free_ready c h) ((λ q. omega (arith, q, few, sum_side c h)), tt)),
-  )
+  fire_steps b' x eb e few = record {
+    same = with_table_net b b' s x eb;
+    leads = λ c h. (
+      with_side c s (fired m t (on_side c s)),
+      shows_with m b b' s x c (fired m t (on_side c s)) eb h (holds_after x c h e),
+      moved s t (free_append (not_ready m c s t) (crowded (fired m t (on_side c s))) (free_ready c h) ((λ q. omega (arith, q, few, sum_side c h)), tt)),
+    );
+  }

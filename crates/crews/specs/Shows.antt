@@ -36,9 +36,10 @@ table_on b s = cond (s == 0) b.left b.right
 abbrev pub with_table : {N : Type 0} → Bench N → ℕ → Crew → Bench N
 with_table b s x = cond (s == 0) (record { net = b.net; left = x; right = b.right }) (record { net = b.net; left = b.left; right = x })
 
--- from the crews that b holds the call is answered so, and leads to those that b' holds
-abbrev pub Steps : {N : Type 0} → Meaning → Bench N → Call → Result Answer Fault → Bench N → Type 0
-Steps m b call a b' = (c : Crews) → Shows m b c → (d : Crews) × Shows m b' d × Step m c call a d
+-- From the crews that b holds the call is answered so, and leads to those that b' holds. Its net stays as it was.
+pub record Steps {N : Type 0} (m : Meaning) (b : Bench N) (call : Call) (a : Result Answer Fault) (b' : Bench N) : Type 0 where
+  pub same : b'.net ≡ b.net
+  pub leads : (c : Crews) → Shows m b c → (d : Crews) × Shows m b' d × Step m c call a d
 
 -- The table on side s with a token on the place of t, or the first of the reasons that there is none.
 pub record Ready {N : Type 0} (m : Meaning) (b : Bench N) (s t : ℕ) (y : Crew) : Type 0 where

@@ -44,8 +44,7 @@ impl<N: Net> Bench<N> {
 
     // Puts tokens of a side on a place.
     pub fn put(&mut self, side: usize, place: usize, count: usize) -> Result<(), Fault>
-        ensures same { self.new.net ≡ self.old.net }
-        ensures steps { Steps (N.Net.meaning self.old.net) self.old (Put side place count) (answer_of (λ _. Done) result) self.new }
+        ensures { Steps (N.Net.meaning self.old.net) self.old (Put side place count) (answer_of (λ _. Done) result) self.new }
     {
         self.knows_place(side, place)?;
         let mut crew = self.crew(side);
@@ -59,8 +58,7 @@ impl<N: Net> Bench<N> {
 
     // Takes tokens of a side from a place.
     pub fn take(&mut self, side: usize, place: usize, count: usize) -> Result<(), Fault>
-        ensures same { self.new.net ≡ self.old.net }
-        ensures steps { Steps (N.Net.meaning self.old.net) self.old (Take side place count) (answer_of (λ _. Done) result) self.new }
+        ensures { Steps (N.Net.meaning self.old.net) self.old (Take side place count) (answer_of (λ _. Done) result) self.new }
     {
         self.knows_place(side, place)?;
         let mut crew = self.crew(side);
@@ -74,8 +72,7 @@ impl<N: Net> Bench<N> {
 
     // Fires a transition on a side: a token leaves the transition's place, and the tokens that it puts down come.
     pub fn fire(&mut self, side: usize, transition: usize) -> Result<(), Fault>
-        ensures same { self.new.net ≡ self.old.net }
-        ensures steps { Steps (N.Net.meaning self.old.net) self.old (Fire side transition) (answer_of (λ _. Done) result) self.new }
+        ensures { Steps (N.Net.meaning self.old.net) self.old (Fire side transition) (answer_of (λ _. Done) result) self.new }
     {
         let mut crew = self.ready(side, transition)?;
         if usize::from(self.net.total(transition)) > crew.room() + 1 {

@@ -32,19 +32,14 @@ fn compare_in<N: Net>(
 fn compared<N: Net>(bench: &Bench<N>, room: usize) -> Result<Answer, Fault>
     ensures { Steps (N.Net.meaning bench.now.net) bench.now (Compare room) result bench.now }
 {
-    let mut entries = [Swap {
-        left: 0,
-        right: 0,
-        count: 0,
-    }; MOST_SWAPS];
+    let mut entries = [Swap::default(); MOST_SWAPS];
     let verdict = compare_in(bench, room, &mut entries)?;
     Ok(said(verdict, entries))
 }
 
 // Makes a call by the bench's method for it.
 fn answer<N: Net>(bench: &mut Bench<N>, call: Call) -> Result<Answer, Fault>
-    ensures same { bench.new.net ≡ bench.old.net }
-    ensures steps { Steps (N.Net.meaning bench.old.net) bench.old call result bench.new }
+    ensures { Steps (N.Net.meaning bench.old.net) bench.old call result bench.new }
 {
     match call {
         Call::Put { side, place, count } => bench.put(side, place, count).map(|()| Answer::Done),
@@ -58,7 +53,6 @@ fn answer<N: Net>(bench: &mut Bench<N>, call: Call) -> Result<Answer, Fault>
 
 // Performs one call. Whatever calls and answers led from empty crews to those of the bench, with this one they lead to those that it holds then.
 pub fn perform<N: Net>(bench: &mut Bench<N>, call: Call) -> Result<Answer, Fault>
-    ensures same { bench.new.net ≡ bench.old.net }
     ensures steps { Steps (N.Net.meaning bench.old.net) bench.old call result bench.new }
     ensures extends { Extends (N.Net.meaning bench.old.net) bench.old call result bench.new }
     ensures order { TriedInOrder }
