@@ -11,10 +11,10 @@ use Rattle.crews.specs.Calls.{cramped}
 use Rattle.crews.specs.Counting.{DiffersAt, Found}
 use Rattle.crews.specs.Swaps.{swap_list}
 use Rattle.crews.specs.Pairs.{table_of}
-use Rattle.crews.specs.Tally.{alike, apart, refused}
-use Rattle.crews.specs.Shows.{Shows, Steps, said_or}
+use Rattle.crews.specs.Tally.{Step, alike, apart, refused}
+use Rattle.crews.specs.Shows.{Shows, Steps, answer_of, verdict_answer}
 use Rattle.crews.specs.Verdicts.{AlikeBy}
-use Rattle.crews.specs.Compares.{Written, Unwritten, Compared}
+use Rattle.crews.specs.Compares.{Written, Unwritten, Says, Compared}
 use Rattle.crews.specs.declared.bench.Bench.{Bench}
 use Rattle.crews.specs.declared.swap.Swap.{Swap}
 use Rattle.crews.specs.declared.swap.Difference.{Difference}
@@ -49,17 +49,19 @@ module _ {N : Type 0} (m : Meaning) (b : Bench N) (law : Lawful m) (cs : List �
 
 -- a comparison into the first entries of a list of 256 is one into a list with that room
 pub said_steps : {N : Type 0} (m : Meaning) (b : Bench N) (room : ℕ) (r : Result Verdict Fault) (before after rest entries : List Swap) → m.places ≤ 128 → length before ≡ min room 256
-    → entries ≡ after ++ rest → Compared m b before after r → Steps m b (Compare room) (said_or r entries) b
-said_steps m b room (Ok (Alike used)) before after rest entries few e ee says c shows =
-    let s = says c shows in
-    let front : take used entries ≡ s.list =
-    ap (take used) ee ∙ ap (λ xs. take used (xs ++ rest)) s.now_is ∙ ap (take used) (append_assoc s.list (drop used before) rest) ∙ take_at s.list (drop used before ++ rest) used (sym s.count) in
-    (c, shows, alike room (record { entries = entries; used = used }) ((λ short. s.free.0 (omega (arith, short, e, few))), tt) (subst (AlikeBy m c) (sym front) s.alike))
-said_steps m b room (Ok (Apart d)) before after rest entries few e ee says c shows =
-    let s = says c shows in
-    (c, shows, apart room d ((λ short. s.free.0 (omega (arith, short, e, few))), tt) s.apart)
-said_steps m b room (Err f) before after rest entries few e ee says c shows = (c, shows, refused f (as_room (says c shows).first))
+    → entries ≡ after ++ rest → Compared m b before after r → Steps m b (Compare room) (answer_of (verdict_answer entries) r) b
+said_steps m b room r before after rest entries few e ee says = record { same = refl; leads = λ c shows. (c, shows, by_answer c r (says c shows)) }
   where
-    as_room : First (cramped m (length before)) f → First (cramped m room) f
-    as_room (inl (short, same)) = inl (omega (arith, short, e, few), same)
-    as_room (inr (no_short, none)) = absurd none
+    front : (c : Crews) (used : ℕ) (s : Written m c before after used) → take used entries ≡ s.list
+    front c used s =
+        ap (take used) ee ∙ ap (λ xs. take used (xs ++ rest)) s.now_is ∙ ap (take used) (append_assoc s.list (drop used before) rest) ∙ take_at s.list (drop used before ++ rest) used (sym s.count)
+
+    as_room : (f : Fault) → First (cramped m (length before)) f → First (cramped m room) f
+    as_room f (inl (short, same)) = inl (omega (arith, short, e, few), same)
+    as_room f (inr (no_short, none)) = absurd none
+
+    by_answer : (c : Crews) (r : Result Verdict Fault) → Says m c before after r → Step m c (Compare room) (answer_of (verdict_answer entries) r) c
+    by_answer c (Ok (Alike used)) s =
+        alike room (record { entries = entries; used = used }) ((λ short. s.free.0 (omega (arith, short, e, few))), tt) (subst (AlikeBy m c) (sym (front c used s)) s.alike)
+    by_answer c (Ok (Apart d)) s = apart room d ((λ short. s.free.0 (omega (arith, short, e, few))), tt) s.apart
+    by_answer c (Err f) s = refused f (as_room f s.first)

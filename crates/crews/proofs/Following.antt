@@ -1,5 +1,5 @@
 -- How follow ends: y is the table on its side, z the one across.
-use Rattle.std.proofs.Common.{◌≡◌, ℕ, ◌+◌, ◌-◌, ◌<◌, ◌≤◌, Bool, true, false, cond, eqb, ◌⊎◌, List, ◌++◌, length, get_or, take, is_some, Some, None, sum, Option, sym, refl, ap, ◌∙◌, subst, inl, inr, arith}
+use Rattle.std.proofs.Common.{◌≡◌, ℕ, ◌+◌, ◌-◌, ◌<◌, ◌≤◌, Bool, true, false, cond, eqb, ◌⊎◌, List, ◌++◌, length, get_or, take, is_some, Some, None, Ok, Err, sum, Option, sym, refl, ap, ◌∙◌, subst, inl, inr, arith}
 use Rattle.std.proofs.lemmas.Bool.{cases_eq}
 use Rattle.net.specs.Meaning.{Meaning, transition, total_of}
 use Rattle.net.specs.Limits.{Lawful}
@@ -16,13 +16,13 @@ use Rattle.crews.specs.Crews.{Crews, on_side, across, both}
 use Rattle.crews.specs.Calls.{not_ready}
 use Rattle.crews.specs.Counting.{DiffersAt, Found}
 use Rattle.crews.specs.Following.{unlike, overfull, followed, FitsBy}
-use Rattle.crews.specs.Tally.{followed_by}
+use Rattle.crews.specs.Tally.{Step, followed_by}
 use Rattle.crews.specs.Shows.{Holds, Shows, Steps, Ready, table_on, with_table}
 use Rattle.crews.specs.declared.bench.Bench.{Bench}
 use Rattle.crews.specs.declared.crew.Crew.{Crew}
 use Rattle.crews.specs.declared.swap.Difference.{Difference}
 use Rattle.crews.specs.declared.call.Call.TheVariants.{Follow}
-use Rattle.crews.specs.declared.call.Answer.TheVariants.{Followed, Refused}
+use Rattle.crews.specs.declared.call.Answer.TheVariants.{Followed}
 use Rattle.crews.proofs.Answering.{fits_from_by, by_from_fits, paired_sum, fits_total, paired_across, some_fits, answered, sum_across}
 use Rattle.crews.proofs.Judging.{judged_alike, judged_apart}
 use Rattle.crews.proofs.Steps.{stays, free_ready, sum_side, sum_ready, holds_after, same_tokens}
@@ -58,7 +58,7 @@ shows_both m b b' s x w xs ys l eb hx hw = subst (λ a. Shows m a (both s xs ys)
         let e : s ≡ 1 = omega arith in
         subst (λ (k : ℕ). Shows m (with_table (with_table b k x) (1 - k) w) (both k xs ys)) (sym e) (record { left = hw; right = hx })
 
-pub both_net : {N : Type 0} (b b' : Bench N) (s : ℕ) (x w : Crew) → b' ≡ with_table (with_table b s x) (1 - s) w → b'.net ≡ b.net
+both_net : {N : Type 0} (b b' : Bench N) (s : ℕ) (x w : Crew) → b' ≡ with_table (with_table b s x) (1 - s) w → b'.net ≡ b.net
 both_net {N} b b' s x w eb = ap (λ a. a.net) eb ∙ by_sides (eqb s 0) (eqb (1 - s) 0)
   where
     by_sides : (v v' : Bool)
@@ -83,7 +83,7 @@ found_none n cs xs ys None e f = f
 -- ## Follow
 
 module _ {N : Type 0} (m : Meaning) (b : Bench N) (s t : ℕ) (y z : Crew) (law : Lawful m) (ready : Ready m b s t y) (ez : z ≡ table_on b (1 - s)) (cs : List ℕ) (classed : ClassedBy m cs) where
-  pub follow_apart : (d : Difference) → DiffersAt m.places cs b.left.counts b.right.counts d → (f : Fault) → f ≡ plain CrewsApart → Steps m b (Follow s t) (Refused f) b
+  pub follow_apart : (d : Difference) → DiffersAt m.places cs b.left.counts b.right.counts d → (f : Fault) → f ≡ plain CrewsApart → Steps m b (Follow s t) (Err f) b
   follow_apart d at f ef = stays m b (Follow s t) f
       (λ c h. first_back (not_ready m c s t) (unlike m c ++ overfull m c s t) f (free_ready m b s t y law ready c h)
       (inl ((judged_apart m law cs classed c b.left.counts b.right.counts (front_of_holds _ _ _ h.left) (front_of_holds _ _ _ h.right) d at).unpaired, sym ef)))
@@ -115,7 +115,7 @@ module _ {N : Type 0} (m : Meaning) (b : Bench N) (s t : ℕ) (y z : Crew) (law 
 
     module _ (f : Fault) (ef : f ≡ plain TooManyTokens) where
       pub follow_full : length y.counts ≡ 128 → (4097 < sum y.counts + total_of (transition m t)) ⊎ (4097 < sum z.counts + total_of (transition m t))
-          → Steps m b (Follow s t) (Refused f) b
+          → Steps m b (Follow s t) (Err f) b
       follow_full whole many = stays m b (Follow s t) f
           (λ c h. first_back (not_ready m c s t) (unlike m c ++ overfull m c s t) f (free_ready m b s t y law ready c h)
           (first_back (unlike m c) (overfull m c s t) f (free_unlike c h) (inl (inl (omega (arith, too_many c h many, sum_ready m b s t y law ready whole, sum_side m b s t y law ready c h)), sym ef))))
@@ -184,15 +184,18 @@ module _ {N : Type 0} (m : Meaning) (b : Bench N) (s t : ℕ) (y z : Crew) (law 
           by_side (inr (v, f, many)) = omega (arith, many, own, sum_across m law c s t (paired_shown c h) ready.known (enabled_shown c h) v f)
 
       pub follow_steps : (b' : Bench N) (x w : Crew) → b' ≡ with_table (with_table b s x) (1 - s) w → x.counts ≡ fired m t y.counts → w.counts ≡ fired m u z.counts
-          → sum (fired m t y.counts) ≤ 4096 → Steps m b (Follow s t) (Followed u) b'
-      follow_steps b' x w eb ex ew few c h =
-          let holds_w : Holds m.places w.counts (fired m u (across c s)) =
-          subst (λ xs. Holds m.places xs (fired m u (across c s))) (sym ew)
-          (holds_fired m u z.counts (across c s) law fits.known (shows_across m b s z c ready.side_known ez h)) in (
-            followed m c s t u,
-            shows_both m b b' s x w (fired m t (on_side c s)) (fired m u (across c s)) ready.side_known eb (holds_after m b s t y law ready x c h ex) holds_w,
-            followed_by s t u
-                (free_append (not_ready m c s t) (unlike m c ++ overfull m c s t) (free_ready m b s t y law ready c h)
-                (free_append (unlike m c) (overfull m c s t) (free_unlike c h) (free_overfull few c h)))
-                (answered m law c s t (paired_shown c h) ready.known (enabled_shown c h) u (fits_shown c h)),
-          )
+          → sum (fired m t y.counts) ≤ 4096 → Steps m b (Follow s t) (Ok (Followed u)) b'
+      follow_steps b' x w eb ex ew few = record { same = both_net b b' s x w eb; leads = λ c h. (followed m c s t u, shown c h, step c h) }
+        where
+          shown : (c : Crews) → Shows m b c → Shows m b' (followed m c s t u)
+          shown c h =
+              shows_both m b b' s x w (fired m t (on_side c s)) (fired m u (across c s)) ready.side_known eb (holds_after m b s t y law ready x c h ex)
+              (subst (λ xs. Holds m.places xs (fired m u (across c s))) (sym ew)
+              (holds_fired m u z.counts (across c s) law fits.known (shows_across m b s z c ready.side_known ez h)))
+
+          step : (c : Crews) → Shows m b c → Step m c (Follow s t) (Ok (Followed u)) (followed m c s t u)
+          step c h =
+              followed_by s t u
+              (free_append (not_ready m c s t) (unlike m c ++ overfull m c s t) (free_ready m b s t y law ready c h)
+              (free_append (unlike m c) (overfull m c s t) (free_unlike c h) (free_overfull few c h)))
+              (answered m law c s t (paired_shown c h) ready.known (enabled_shown c h) u (fits_shown c h))

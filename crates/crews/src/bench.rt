@@ -5,8 +5,9 @@ ghost use Rattle.net.specs.Refusals.{Tried};
 ghost use Rattle.team.specs.Classes.{ClassedBy};
 ghost use Rattle.crews.specs.Crews.{nobody};
 ghost use Rattle.crews.specs.Calls.{unknown};
-ghost use Rattle.crews.specs.Shows.{Shows, Steps, ReadyOr, table_on, with_table, done_or, tokens_or};
+ghost use Rattle.crews.specs.Shows.{Shows, Steps, ReadyOr, table_on, with_table, answer_of};
 ghost use Rattle.crews.specs.declared.call.Call.TheVariants.{Put, Take, Fire, Count};
+ghost use Rattle.crews.specs.declared.call.Answer.TheVariants.{Done, Tokens};
 
 use crate::crew::Crew;
 use classing::{ClassTable, Partition};
@@ -35,7 +36,7 @@ impl<N: Net> Bench<N> {
 
     // How many tokens the crew on a side has on a place.
     pub fn count(&self, side: usize, place: usize) -> Result<u16, Fault>
-        ensures { Steps (N.Net.meaning self.now.net) self.now (Count side place) (tokens_or result) self.now }
+        ensures { Steps (N.Net.meaning self.now.net) self.now (Count side place) (answer_of Tokens result) self.now }
     {
         self.knows_place(side, place)?;
         Ok(self.crew(side).at(place))
@@ -43,8 +44,7 @@ impl<N: Net> Bench<N> {
 
     // Puts tokens of a side on a place.
     pub fn put(&mut self, side: usize, place: usize, count: usize) -> Result<(), Fault>
-        ensures same { self.new.net ≡ self.old.net }
-        ensures steps { Steps (N.Net.meaning self.old.net) self.old (Put side place count) (done_or result) self.new }
+        ensures { Steps (N.Net.meaning self.old.net) self.old (Put side place count) (answer_of (λ _. Done) result) self.new }
     {
         self.knows_place(side, place)?;
         let mut crew = self.crew(side);
@@ -58,8 +58,7 @@ impl<N: Net> Bench<N> {
 
     // Takes tokens of a side from a place.
     pub fn take(&mut self, side: usize, place: usize, count: usize) -> Result<(), Fault>
-        ensures same { self.new.net ≡ self.old.net }
-        ensures steps { Steps (N.Net.meaning self.old.net) self.old (Take side place count) (done_or result) self.new }
+        ensures { Steps (N.Net.meaning self.old.net) self.old (Take side place count) (answer_of (λ _. Done) result) self.new }
     {
         self.knows_place(side, place)?;
         let mut crew = self.crew(side);
@@ -73,8 +72,7 @@ impl<N: Net> Bench<N> {
 
     // Fires a transition on a side: a token leaves the transition's place, and the tokens that it puts down come.
     pub fn fire(&mut self, side: usize, transition: usize) -> Result<(), Fault>
-        ensures same { self.new.net ≡ self.old.net }
-        ensures steps { Steps (N.Net.meaning self.old.net) self.old (Fire side transition) (done_or result) self.new }
+        ensures { Steps (N.Net.meaning self.old.net) self.old (Fire side transition) (answer_of (λ _. Done) result) self.new }
     {
         let mut crew = self.ready(side, transition)?;
         if usize::from(self.net.total(transition)) > crew.room() + 1 {

@@ -4,7 +4,7 @@ use Rattle.crews.specs.Counting.{Found}
 use Rattle.crews.specs.Following.{unlike, overfull}
 use Rattle.crews.specs.Shows.{with_table}
 use Rattle.crews.specs.declared.call.Call.TheVariants.{Follow}
-use Rattle.crews.proofs.Following.{found_some, found_none, follow_apart, follow_full, some_answer, sum_answer, follow_steps, both_net}
+use Rattle.crews.proofs.Following.{found_some, found_none, follow_apart, follow_full, some_answer, sum_answer, follow_steps}
 use Rattle.crews.proofs.Steps.{not_ready_steps, sum_ready}
 use Rattle.crews.proofs.bench.Bench.follow.Goals as goal
 use Rattle.crews.proofs.bench.Bench.follow.Goals.{then-total-room-via-then-total-room, then-total-room-via-else-total-room+then-total-room-2}
@@ -16,7 +16,7 @@ returns-in_err-crew g c =
     let s = c.args.side in
     let t = c.args.transition in
     let p = err_from_is_err_and c.from_residual.result c.from_residual.ensures.1 in
-    rw (p.1, p.2) (record { same = refl; steps = not_ready_steps m b (Follow s t) s t (λ x. unlike m x ++ overfull m x s t) _ (λ x. refl) c.in_err-crew.ensures })
+    rw (p.1, p.2) (not_ready_steps m b (Follow s t) s t (λ x. unlike m x ++ overfull m x s t) _ (λ x. refl) c.in_err-crew.ensures)
 
 pub returns-then-is_some : goal.returns-then-is_some
 returns-then-is_some g c =
@@ -25,11 +25,8 @@ returns-then-is_some g c =
     let cs = c.class_table-table.result.classes in
     let found = subst (λ (k : ℕ). Found k cs b.left.counts b.right.counts c.difference.result) c.places.ensures c.difference.ensures in
     let (d, at) = found_some m.places cs b.left.counts b.right.counts c.difference.result (sym c.is_some.ensures ∙ c.if-is_some.true) found in
-    record {
-      same = refl;
-      steps = follow_apart m b c.args.side c.args.transition c.in_ok-crew.crew _ (g.N.Net.lawful b.net) c.in_ok-crew.ensures refl cs c.class_table-table.ensures d at
-          c.plain.result c.plain.ensures;
-    }
+    follow_apart m b c.args.side c.args.transition c.in_ok-crew.crew _ (g.N.Net.lawful b.net) c.in_ok-crew.ensures refl cs c.class_table-table.ensures d at
+    c.plain.result c.plain.ensures
 
 pub answering-answer-requires : goal.answering-answer-requires
 answering-answer-requires g c =
@@ -85,12 +82,9 @@ returns g c =
     let whole : length y.counts ≡ 128 = search rules in
     let all = sum_ready m b c.args.side c.args.transition y law ready whole in
     let after = c.replace-2.ensures ∙ ap (λ a. with_table a (1 - c.args.side) c.fire-2.new.self) c.replace.ensures in
-    record {
-      same = both_net b c.replace-2.new.self c.args.side c.fire.new.self c.fire-2.new.self after;
-      steps = follow_steps m b c.args.side c.args.transition y c.crew-other.result law ready c.crew-other.ensures cs c.class_table-table.ensures level
-          c.answering-answer.result c.answering-answer.ensures c.replace-2.new.self c.fire.new.self c.fire-2.new.self after c.fire.ensures c.fire-2.ensures
-          (omega (arith, all, c.if-total-room.false, c.room.ensures, c.total.ensures, c.from-total.ensures));
-    }
+    follow_steps m b c.args.side c.args.transition y c.crew-other.result law ready c.crew-other.ensures cs c.class_table-table.ensures level
+    c.answering-answer.result c.answering-answer.ensures c.replace-2.new.self c.fire.new.self c.fire-2.new.self after c.fire.ensures c.fire-2.ensures
+    (omega (arith, all, c.if-total-room.false, c.room.ensures, c.total.ensures, c.from-total.ensures))
 
 pub returns-then-total-room : goal.returns-then-total-room
 returns-then-total-room g c =
@@ -105,10 +99,7 @@ returns-then-total-room g c =
     let whole : length y.counts ≡ 128 = search rules in
     let full = follow_full m b c.args.side c.args.transition y c.crew-other.result law ready c.crew-other.ensures cs c.class_table-table.ensures level
     c.plain-then-total-room.result c.plain-then-total-room.ensures whole in
-    record {
-      same = refl;
-      steps = elim c.then-total-room.branch [
-        | then-total-room-via-then-total-room w ↦ full (inl (omega (arith, w.if-total-room.true, c.room.ensures, c.total.ensures, c.from-total.ensures)))
-        | then-total-room-via-else-total-room+then-total-room-2 w ↦ full (inr (omega (arith, w.if-total-room-2.true, w.room-else-total-room.ensures, c.total.ensures, c.from-total.ensures)))
-      ];
-    }
+    elim c.then-total-room.branch [
+      | then-total-room-via-then-total-room w ↦ full (inl (omega (arith, w.if-total-room.true, c.room.ensures, c.total.ensures, c.from-total.ensures)))
+      | then-total-room-via-else-total-room+then-total-room-2 w ↦ full (inr (omega (arith, w.if-total-room-2.true, w.room-else-total-room.ensures, c.total.ensures, c.from-total.ensures)))
+    ]
