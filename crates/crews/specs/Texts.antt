@@ -1,11 +1,10 @@
 -- Calls and their answers as they are printed.
 use Rattle.std.specs.Prelude.{ℕ, if◌then◌else◌, List, ◌++◌, take, codes, decimal, ◌==◌}
 use Rattle.std.specs.List.{flat_map}
-use Rattle.net.specs.Refusals.{number_of}
 use Rattle.crews.specs.declared.call.Call.{Call}
 use Rattle.crews.specs.declared.call.Call.TheVariants.{Put, Take, Fire, Follow, Count, Compare}
 use Rattle.crews.specs.declared.call.Answer.{Answer}
-use Rattle.crews.specs.declared.call.Answer.TheVariants.{Done, Tokens, Followed, Alike, Apart, Refused}
+use Rattle.crews.specs.declared.call.Answer.TheVariants.{Done, Tokens, Followed, Alike, Apart}
 use Rattle.crews.specs.declared.swap.Swap.{Swap}
 use Rattle.crews.specs.declared.swap.SwapList.{SwapList}
 use Rattle.crews.specs.declared.swap.Difference.{Difference}
@@ -38,11 +37,10 @@ swap_list_text l = codes "ALIKE" ++ flat_map (λ s. codes "\n" ++ swap_text s) (
 abbrev pub difference_text : Difference → List ℕ
 difference_text d = three_numbers d.class d.left d.right
 
--- an answer, a refusal by its number
+-- what an accepted call answers
 abbrev pub answer_text : Answer → List ℕ
 answer_text Done = codes "done"
 answer_text (Tokens k) = decimal k
 answer_text (Followed u) = decimal u
 answer_text (Alike l) = swap_list_text l
 answer_text (Apart d) = codes "APART " ++ difference_text d
-answer_text (Refused f) = codes "refused " ++ decimal (number_of f.refusal)

@@ -55,7 +55,7 @@ impl fmt::Display for Difference {
     }
 }
 
-// An answer, a refusal by its number.
+// What an accepted call answers.
 impl fmt::Display for Answer {
     ghost output = { λ answer. Some (answer_text answer) };
 
@@ -66,10 +66,6 @@ impl fmt::Display for Answer {
             Answer::Followed(transition) => write!(f, "{transition}"),
             Answer::Alike(list) => write!(f, "{list}"),
             Answer::Apart(difference) => write!(f, "APART {difference}"),
-            Answer::Refused(fault) => {
-                let number = fault.refusal.number();
-                write!(f, "refused {number}")
-            }
         }
     }
 }
