@@ -12,9 +12,7 @@ fn main(rt: HostRuntime) -> anyhow::Result<()> {
 
 fn run(rt: &HostRuntime) -> anyhow::Result<()> {
     let mut bytes = Vec::new(rt.alloc());
-    rt.stdin()
-        .take(MOST_BYTES as u64)
-        .read_to_end(&mut bytes)?;
+    rt.stdin().take(MOST_BYTES as u64).read_to_end(&mut bytes)?;
     match check(bytes.as_slice()) {
         Ok(_) => print_classes(rt, bytes.as_slice()),
         Err(fault) => {

@@ -5,6 +5,7 @@ use Rattle.crews.specs.declared.call.Call.{Call}
 use Rattle.crews.specs.declared.call.Call.TheVariants.{Put, Take, Fire, Follow, Count, Compare}
 use Rattle.crews.specs.declared.call.Answer.{Answer}
 use Rattle.crews.specs.declared.call.Answer.TheVariants.{Done, Tokens, Followed, Alike, Apart}
+use Rattle.crews.specs.declared.swap.TheConstants.{MOST_SWAPS}
 use Rattle.crews.specs.declared.swap.Swap.{Swap}
 use Rattle.crews.specs.declared.swap.SwapList.{SwapList}
 use Rattle.crews.specs.declared.swap.Difference.{Difference}
@@ -23,7 +24,7 @@ call_text (Take s p k) = codes "take " ++ three_numbers s p k
 call_text (Fire s t) = codes "fire " ++ two_numbers s t
 call_text (Follow s t) = codes "follow " ++ two_numbers s t
 call_text (Count s p) = codes "count " ++ two_numbers s p
-call_text (Compare room) = if room == 256 then codes "compare" else codes "compare " ++ decimal room
+call_text (Compare room) = if room == MOST_SWAPS then codes "compare" else codes "compare " ++ decimal room
 
 -- an entry of a swap list
 abbrev pub swap_text : Swap → List ℕ
