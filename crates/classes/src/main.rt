@@ -26,6 +26,7 @@ fn run(rt: &HostRuntime) -> anyhow::Result<()> {
 fn print_classes(rt: &HostRuntime, bytes: &[u8]) -> anyhow::Result<()> {
     let net = FileNet::new(bytes);
     let mut table = [0; MOST_PLACES];
+    // there is room for the classes of the most places that a net has
     let rounds = classes(&net, &mut table).unwrap();
     println!(rt; "rounds {rounds}")?;
     for (place, class) in table.iter().enumerate().take(net.places()) {

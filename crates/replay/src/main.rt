@@ -20,6 +20,7 @@ use texts::line;
 fn main(rt: HostRuntime) -> anyhow::Result<ExitCode> {
     match run(&rt) {
         Ok(()) => Ok(ExitCode::SUCCESS),
+        // a refusal is an answer, as a report is
         Err(Stop::Refused(fault)) => {
             println!(rt; "REFUSED {fault}")?;
             Ok(ExitCode::SUCCESS)
@@ -80,6 +81,7 @@ fn over_net<N: Net + Drop>(rt: &HostRuntime, net: N, mut calls: Vec<Call>) -> Re
     add_script(rt, &mut calls)?;
     let heap = rt.alloc();
     let mut answers = vec![in heap; Ok(Answer::Done); calls.len()]?;
+    // there is room for an answer to each call
     let _bench = replay(net, calls.as_slice(), answers.as_mut_slice()).unwrap();
     for (call, answer) in calls.as_slice().iter().zip(answers.as_slice().iter()) {
         rt.println(line(heap, *call, *answer)?)?;
