@@ -1,7 +1,9 @@
 -- The limits that every net and every crew keeps.
 use Rattle.std.specs.Prelude.{◌≡◌, ℕ, ◌<◌, ◌≤◌, length}
-use Rattle.std.proofs.Common.{arith}
-use Rattle.net.specs.Meaning.{Meaning, Transition, transition, count_of, total_of, empty}
+use Rattle.std.proofs.Common.{arith, ap, ⊎_elim}
+use Rattle.std.proofs.lemmas.List.{get_or_past}
+use Rattle.std.proofs.lemmas.Bool.{cases_lt}
+use Rattle.net.specs.Meaning.{Meaning, Transition, transition, idle, count_of, total_of, empty}
 
 abbrev pub most_places : ℕ
 most_places = 128
@@ -30,6 +32,16 @@ pub record Lawful (m : Meaning) : Type 0 where
   pub few_places : m.places ≤ most_places
   pub few_transitions : count_of m ≤ most_transitions
   pub each : (t : ℕ) → t < count_of m → Within m.places (transition m t)
+
+-- the place of any transition, also of one that is out of range
+pub place_small : (m : Meaning) → Lawful m → (t : ℕ) → (transition m t).place ≤ most_places
+place_small m law t = ⊎_elim inside outside (cases_lt t (count_of m))
+  where
+    inside : t < count_of m → (transition m t).place ≤ most_places
+    inside h = omega (arith, (law.each t h).place_known, law.few_places)
+
+    outside : count_of m ≤ t → (transition m t).place ≤ most_places
+    outside h = omega (arith, ap (λ x. x.place) (get_or_past m.transitions t idle h))
 
 pub empty_lawful : Lawful empty
 empty_lawful = record { few_places = omega arith; few_transitions = omega arith; each = λ t h. absurd (omega arith) }

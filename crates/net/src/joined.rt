@@ -1,7 +1,8 @@
 // The joined net: two nets side by side as one.
 ghost use Rattle.std.specs.Prelude.{◌≡◌, ◌+◌, if◌then◌else◌, Ok, Err};
 ghost use Rattle.net.specs.Joins.{joined as join_of, fits as fitting};
-ghost use Rattle.net.specs.JoinLaws.{joined_lawful, Seamed};
+ghost use Rattle.net.specs.JoinLaws.{joined_lawful, Seamed, brought};
+ghost use Rattle.net.specs.Meaning.{transition};
 ghost use Rattle.net.specs.Refusals.{plain as plain_fault};
 ghost use Rattle.net.specs.declared.refusal.Refusal.TheVariants.{Unfit};
 
@@ -17,10 +18,12 @@ pub fn fit<A1: Net, B1: Net>(left: &A1, right: &B1) -> Result<(), Fault>
     }
 }
 
-// Where the right net begins in the joined one: the left net's counts.
+// Where the right net begins in the joined one, and where it ends.
 #[derive(Clone, Copy)]
 struct Seam {
+    left_places: usize,
     places: usize,
+    left_transitions: usize,
     transitions: usize,
 }
 
@@ -28,18 +31,27 @@ struct Seam {
 fn seam_of<A1: Net, B1: Net>(left: &A1, right: &B1) -> Option<Seam>
     ensures { Seamed (A1.Net.meaning left.now) (B1.Net.meaning right.now) result }
 {
-    let places = left.places();
-    let transitions = left.transitions();
-    if places + right.places() <= MOST_PLACES
-        && transitions + right.transitions() <= MOST_TRANSITIONS
-    {
+    let left_places = left.places();
+    let places = left_places + right.places();
+    let left_transitions = left.transitions();
+    let transitions = left_transitions + right.transitions();
+    if places <= MOST_PLACES && transitions <= MOST_TRANSITIONS {
         Some(Seam {
+            left_places,
             places,
+            left_transitions,
             transitions,
         })
     } else {
         None
     }
+}
+
+// Which net a transition comes from, and its number there; so many places stand before those of the right net.
+#[derive(Clone, Copy)]
+enum Origin {
+    Left(usize),
+    Right { number: usize, before: usize },
 }
 
 // The left net's places and transitions keep their numbers, and the right net's follow.
@@ -56,6 +68,23 @@ impl<A1: Net, B1: Net> Joined<A1, B1> {
     {
         Joined { left, right }
     }
+
+    // Where transition t comes from, or none where there is no such transition.
+    fn origin(&self, t: usize) -> Option<Origin>
+        ensures { brought (A1.Net.meaning self.now.left) (B1.Net.meaning self.now.right) result ≡ transition (join_of (A1.Net.meaning self.now.left) (B1.Net.meaning self.now.right)) t }
+    {
+        let seam = seam_of(&self.left, &self.right)?;
+        if t < seam.left_transitions {
+            Some(Origin::Left(t))
+        } else if t < seam.transitions {
+            Some(Origin::Right {
+                number: t - seam.left_transitions,
+                before: seam.left_places,
+            })
+        } else {
+            None
+        }
+    }
 }
 
 impl<A1: Net, B1: Net> Net for Joined<A1, B1> {
@@ -64,64 +93,44 @@ impl<A1: Net, B1: Net> Net for Joined<A1, B1> {
     ghost lawful = { λ x. joined_lawful _ _ (A1.Net.lawful x.left) (B1.Net.lawful x.right) };
 
     fn places(&self) -> usize {
-        match seam_of(&self.left, &self.right) {
-            Some(at) => at.places + self.right.places(),
-            None => 0,
-        }
+        seam_of(&self.left, &self.right).map_or(0, |seam| seam.places)
     }
 
     fn transitions(&self) -> usize {
-        match seam_of(&self.left, &self.right) {
-            Some(at) => at.transitions + self.right.transitions(),
-            None => 0,
-        }
+        seam_of(&self.left, &self.right).map_or(0, |seam| seam.transitions)
     }
 
     fn place(&self, t: usize) -> usize {
-        let Some(at) = seam_of(&self.left, &self.right) else {
-            return 0;
-        };
-        if t < at.transitions {
-            self.left.place(t)
-        } else if t - at.transitions < self.right.transitions() {
-            at.places + self.right.place(t - at.transitions)
-        } else {
-            0
+        match self.origin(t) {
+            Some(Origin::Left(number)) => self.left.place(number),
+            Some(Origin::Right { number, before }) => before + self.right.place(number),
+            None => 0,
         }
     }
 
     fn label(&self, t: usize) -> u8 {
-        let Some(at) = seam_of(&self.left, &self.right) else {
-            return 0;
-        };
-        if t < at.transitions {
-            self.left.label(t)
-        } else {
-            self.right.label(t - at.transitions)
+        match self.origin(t) {
+            Some(Origin::Left(number)) => self.left.label(number),
+            Some(Origin::Right { number, .. }) => self.right.label(number),
+            None => 0,
         }
     }
 
     fn total(&self, t: usize) -> u8 {
-        let Some(at) = seam_of(&self.left, &self.right) else {
-            return 0;
-        };
-        if t < at.transitions {
-            self.left.total(t)
-        } else {
-            self.right.total(t - at.transitions)
+        match self.origin(t) {
+            Some(Origin::Left(number)) => self.left.total(number),
+            Some(Origin::Right { number, .. }) => self.right.total(number),
+            None => 0,
         }
     }
 
     fn tokens(&self, t: usize, p: usize) -> u8 {
-        let Some(at) = seam_of(&self.left, &self.right) else {
-            return 0;
-        };
-        if t < at.transitions {
-            self.left.tokens(t, p)
-        } else if p >= at.places {
-            self.right.tokens(t - at.transitions, p - at.places)
-        } else {
-            0
+        match self.origin(t) {
+            Some(Origin::Left(number)) => self.left.tokens(number, p),
+            Some(Origin::Right { number, before }) if p >= before => {
+                self.right.tokens(number, p - before)
+            }
+            _ => 0,
         }
     }
 }

@@ -19,7 +19,7 @@ impl Ring {
     pub fn new(size: usize, label: usize) -> Ring
         ensures { circle result.size result.label ≡ ring_of size label }
     {
-        if size <= MOST_PLACES && label <= MOST_LABEL as usize {
+        if size <= MOST_PLACES && label <= usize::from(MOST_LABEL) {
             Ring {
                 size,
                 label: label as u8,
@@ -30,6 +30,7 @@ impl Ring {
     }
 }
 
+#[tactic(auto, using(crate::specs::RingLaws::ring_answers))]
 impl Net for Ring {
     ghost meaning = { λ x. circle x.size x.label };
 

@@ -1,11 +1,10 @@
 -- The steps of the index.
-use Rattle.std.proofs.Common.{◌≡◌, ℕ, zero, suc, ◌+◌, ◌-◌, ◌<◌, ◌≤◌, Bool, true, false, cond, List, [], ◌∷◌, ◌++◌, length, ap, ◌∙◌, subst, ⊎_elim, add-zero, add-suc, add-one, arith, length-append}
-use Rattle.std.proofs.lemmas.Bool.{cases_Bool}
+use Rattle.std.proofs.Common.{sym, take, set, length-set, ◌≡◌, ℕ, zero, suc, ◌+◌, ◌-◌, ◌<◌, ◌≤◌, Bool, true, false, cond, List, [], ◌∷◌, ◌++◌, length, ap, ◌∙◌, subst, add-zero, add-suc, add-one, arith, length-append}
+use Rattle.std.proofs.lemmas.List.{take_more_set}
 use Rattle.net.specs.Limits.{most_transitions}
-use Rattle.records.specs.Layout.{most_records, record_count, record_at, at}
+use Rattle.records.specs.Layout.{most_records, record_count, record_at}
 use Rattle.records.specs.Entry.{is_transition, reading}
-use Rattle.records.specs.EntryLaws.{moving, kind_moves}
-use Rattle.records.specs.CheckLaws.{Few, few_to, few_records, counts_are, passed_at}
+use Rattle.records.specs.CheckLaws.{Few, few_to, few_records, counts_are}
 use Rattle.records.specs.File.{sound, transition_records}
 use Rattle.records.specs.FileLaws.{Admits, admits, length_transition_records}
 
@@ -22,6 +21,12 @@ longer b k m h =
     let same : k + (m - k) ≡ m = omega arith in
     subst (λ j. length (transition_records b k) ≤ length (transition_records b j)) same (longer_by b k (m - k))
 
+index_yes : (b : List ℕ) (k : ℕ) → is_transition (reading (record_at b k)) ≡ true → transition_records b (k + 1) ≡ transition_records b k ++ k ∷ []
+index_yes b k kind = ap (transition_records b) (add-one k) ∙ ap (λ v. cond v (transition_records b k ++ k ∷ []) (transition_records b k)) kind
+
+index_no : (b : List ℕ) (k : ℕ) → is_transition (reading (record_at b k)) ≡ false → transition_records b (k + 1) ≡ transition_records b k
+index_no b k kind = ap (transition_records b) (add-one k) ∙ ap (λ v. cond v (transition_records b k ++ k ∷ []) (transition_records b k)) kind
+
 module _ (b : List ℕ) (ok : sound b ≡ true) where
   all : Admits b
   all = admits b ok
@@ -34,18 +39,28 @@ module _ (b : List ℕ) (ok : sound b ≡ true) where
   pub number_small : (k : ℕ) → k < record_count b → k < most_records
   number_small k h = omega (arith, few_records b (record_count b) all.counts all.all)
 
-  module _ (k : ℕ) (h : k < record_count b) where
-    -- a transition record is one more
-    pub index_yes : at (record_at b k) 0 ≡ 2 → transition_records b (k + 1) ≡ transition_records b k ++ k ∷ []
-    index_yes kind =
-        let is = kind_moves (record_at b k) (passed_at b (record_count b) all.counts all.all k h).formed kind in
-        ap (transition_records b) (add-one k) ∙ ap (λ v. cond v (transition_records b k ++ k ∷ []) (transition_records b k)) is
+-- the numbers of the transition records among the first k, in the front of the table
+pub record Indexed (b : List ℕ) (k count : ℕ) (starts : List ℕ) : Type 0 where
+  pub counted : count ≡ length (transition_records b k)
+  pub listed : take count starts ≡ transition_records b k
+  pub size : length starts ≡ most_transitions
 
-    pub index_no : (at (record_at b k) 0 ≡ 2 → ⊥) → transition_records b (k + 1) ≡ transition_records b k
-    index_no other =
-        ap (transition_records b) (add-one k) ∙ ap (λ v. cond v (transition_records b k ++ k ∷ []) (transition_records b k))
-        (⊎_elim (λ e. absurd (other (moving (record_at b k) e).kind)) (λ e. e) (cases_Bool (is_transition (reading (record_at b k)))))
+module _ (b : List ℕ) (k count : ℕ) (starts : List ℕ) (i : Indexed b k count starts) where
+  -- there is room for a transition record more
+  pub index_room : sound b ≡ true → k < record_count b → is_transition (reading (record_at b k)) ≡ true → count < most_transitions
+  index_room ok h kind =
+      omega (arith, few b ok, i.counted, ap length (index_yes b k kind), length-append (transition_records b k) (k ∷ []), longer b (k + 1) (record_count b) (omega arith))
 
-    -- and there is room for it
-    pub index_room : at (record_at b k) 0 ≡ 2 → length (transition_records b k) < most_transitions
-    index_room kind = omega (arith, few, ap length (index_yes kind), length-append (transition_records b k) (k ∷ []), longer b (k + 1) (record_count b) (omega arith))
+  pub indexed_yes : is_transition (reading (record_at b k)) ≡ true → count < most_transitions → Indexed b (k + 1) (count + 1) (set starts count k)
+  indexed_yes kind room =
+      let more = index_yes b k kind in
+      record {
+        counted = omega (arith, i.counted, ap length more, length-append (transition_records b k) (k ∷ []));
+        listed = take_more_set starts count k (omega (arith, i.size, room)) ∙ ap (λ xs. xs ++ k ∷ []) i.listed ∙ sym more;
+        size = length-set starts count k ∙ i.size;
+      }
+
+  pub indexed_no : is_transition (reading (record_at b k)) ≡ false → Indexed b (k + 1) count starts
+  indexed_no kind =
+      let same = index_no b k kind in
+      record { counted = i.counted ∙ ap length (sym same); listed = i.listed ∙ sym same; size = i.size }

@@ -4,3 +4,4 @@ pub mod Spreads
 pub mod Trips
 pub mod Writes
 pub mod CrewLaws
+pub mod TargetOrder

@@ -1,5 +1,6 @@
 -- What one record says, read by its kind.
 use Rattle.std.specs.Prelude.{ℕ, ◌+◌, ◌*◌, Bool, true, false, cond, ◌&&◌, List, [], ◌∷◌, take, drop, ◌==◌, nat_le, nat_lt}
+use Rattle.std.specs.List.{list_all}
 use Rattle.net.specs.Limits.{most_label}
 use Rattle.records.specs.Layout.{at, place_kind, transition_kind, tokens_kind, head_size, record_targets, no_target}
 
@@ -23,8 +24,7 @@ is_transition broken = false
 
 -- each of these places is one of the first n
 abbrev pub below : ℕ → List ℕ → Bool
-below n [] = true
-below n (t ∷ ts) = nat_lt t n && below n ts
+below n ts = list_all (λ t. nat_lt t n) ts
 
 -- the first is at least `last`, and each at least the one before it
 abbrev pub rising : ℕ → List ℕ → Bool
@@ -33,8 +33,7 @@ rising last (t ∷ ts) = nat_le last t && rising t ts
 
 -- no byte is a target
 abbrev pub blank : List ℕ → Bool
-blank [] = true
-blank (t ∷ ts) = t == no_target && blank ts
+blank ts = list_all (λ t. t == no_target) ts
 
 -- the first k bytes are targets in rising order, and the others are none
 abbrev pub padded : ℕ → List ℕ → Bool

@@ -1,20 +1,20 @@
 -- That the net of a file keeps the limits, and its answers as the code gives them.
-use Rattle.std.specs.Prelude.{◌≡◌, ℕ, zero, suc, ◌+◌, ◌*◌, ◌%◌, ◌<◌, ◌≤◌, Bool, true, false, cond, List, [], ◌∷◌, ◌++◌, map, length, take, is_ok, Ok, Err, Result, ◌==◌, nat_lt, slice_index, slice_index_or, refl}
-use Rattle.std.proofs.Common.{arith, sym, ap, subst, ◌∙◌, ⊎_elim, length-append, length-take, length-drop, get_or-take}
+use Rattle.std.specs.Prelude.{◌≡◌, ℕ, zero, suc, ◌+◌, ◌%◌, ◌<◌, ◌≤◌, Bool, true, false, cond, List, [], ◌∷◌, ◌++◌, map, length, take, is_ok, Ok, Err, Result, ◌==◌, nat_lt, slice_index, slice_index_or, refl}
+use Rattle.std.proofs.Common.{arith, sym, ap, subst, ◌∙◌, length-append, length-take}
 use Rattle.std.proofs.lemmas.List.{get_or_past, get_or-map, length-map}
-use Rattle.std.proofs.lemmas.List.FromFn.{length-map-range_with_len, get_or-map-range_with_len}
-use Rattle.std.proofs.lemmas.Bool.{false≢true, and_parts, ltb-true, cases_lt}
+use Rattle.std.proofs.lemmas.List.FromFn.{length-map-range_with_len}
+use Rattle.std.proofs.lemmas.Bool.{false≢true, and_parts, ltb-true}
 use Rattle.net.specs.declared.refusal.Refusal.TheVariants.{PartialRecord}
 use Rattle.net.specs.declared.refusal.Fault.{Fault}
 use Rattle.net.specs.Refusals.{at_spot}
-use Rattle.net.specs.Meaning.{Transition, transition, idle, count_of, tokens_on, total_of, empty}
+use Rattle.net.specs.Meaning.{Transition, transition, idle, count_of, empty}
 use Rattle.net.specs.Limits.{Lawful, Within, most_places, most_transitions}
 use Rattle.records.specs.declared.counts.Counts.{Counts}
-use Rattle.records.specs.Layout.{record_size, record_targets, record_count, record_at, at}
+use Rattle.records.specs.Layout.{record_size, record_count, record_at, at}
 use Rattle.records.specs.Entry.{Entry, declares, moves, holds, broken, is_transition, below, targets_of, reading}
 use Rattle.records.specs.Check.{counted, known, checked_to, checked, counts_of}
 use Rattle.records.specs.EntryLaws.{Moving, moving}
-use Rattle.records.specs.CheckLaws.{err_not_ok, Few, Before, before, counts_are, few_to, places_grow, length_record}
+use Rattle.records.specs.CheckLaws.{err_not_ok, Few, Before, before, counts_are, few_to, places_grow}
 use Rattle.records.specs.File.{sound, tokens_to, transition_of, transition_records, declared_places, declared_net, net_of, admitted_records, picked}
 use Rattle.records.specs.TargetLaws.{below_more, sum_tokens}
 
@@ -123,10 +123,10 @@ transitions_are b = by_sound (sound b)
 pub count_is : (b : List ℕ) → count_of (net_of b) ≡ length (picked b)
 count_is b = ap length (transitions_are b) ∙ length-map (picked b) (transition_at b)
 
-net_at : (b : List ℕ) (t : ℕ) → t < length (picked b) → transition (net_of b) t ≡ transition_at b (slice_index (picked b) t)
+pub net_at : (b : List ℕ) (t : ℕ) → t < length (picked b) → transition (net_of b) t ≡ transition_at b (slice_index (picked b) t)
 net_at b t h = ap (λ xs. slice_index_or xs t idle) (transitions_are b) ∙ get_or-map (transition_at b) (picked b) t 0 idle h
 
-net_past : (b : List ℕ) (t : ℕ) → length (picked b) ≤ t → transition (net_of b) t ≡ idle
+pub net_past : (b : List ℕ) (t : ℕ) → length (picked b) ≤ t → transition (net_of b) t ≡ idle
 net_past b t h = get_or_past (net_of b).transitions t idle (rw (count_is b) h)
 
 -- what the check has shown of a transition record
@@ -177,84 +177,6 @@ net_lawful b = record {
       let h' : t < length (picked b) = rw (count_is b) at h in
       subst (Within (net_of b).places) (sym (net_at b t h')) (within b (slice_index (picked b) t) (found b t h'));
 }
-
--- ## The answers, by the bytes of a transition's record
-
--- what the record of transition t tells of it
-pub record Tells (b : List ℕ) (t : ℕ) (r : List ℕ) : Type 0 where
-  pub size : length r ≡ record_size
-  pub few : at r 3 ≤ record_targets
-  pub place : at r 1 ≡ (transition (net_of b) t).place
-  pub label : at r 2 ≡ (transition (net_of b) t).label
-  pub total : at r 3 ≡ total_of (transition (net_of b) t)
-  pub tokens : (p : ℕ) → p < (net_of b).places → tokens_to (targets_of r) p ≡ tokens_on (transition (net_of b) t) p
-
-tells_at : (b : List ℕ) (t : ℕ) → t < length (picked b) → Tells b t (record_at b (slice_index (picked b) t))
-tells_at b t h =
-    let k = slice_index_or (picked b) t 0 in
-    let r = record_at b k in
-    let n = (net_of b).places in
-    let f = found b t h in
-    let move = f.placed.move in
-    let is : transition_of n (moves (at r 1) (at r 2) (targets_of r)) ≡ transition (net_of b) t = ap (transition_of n) (sym move.is) ∙ sym (net_at b t h) in
-    let long : length r ≡ record_size = length_record b k (omega (arith, f.inside)) in
-    let targets : length (targets_of r) ≡ at r 3 = simp (length-take, length-drop) (omega (arith, move.total_small)) in
-    record {
-      size = long;
-      few = move.total_small;
-      place = ap (λ x. x.place) is;
-      label = ap (λ x. x.label) is;
-      total = sym targets ∙ sym (sum_tokens n (targets_of r) f.placed.targets_known) ∙ ap total_of is;
-      tokens = λ p l. sym (get_or-map-range_with_len (tokens_to (targets_of r)) 0 n p p 0 l (omega arith)) ∙ ap (λ x. tokens_on x p) is;
-    }
-
--- the table of record numbers that a file net keeps
-module _ (b starts : List ℕ) (count t : ℕ) (tied : take count starts ≡ picked b) (few : count ≤ length starts) where
-  length_picked : count ≡ length (picked b)
-  length_picked = omega (arith, ap length tied, length-take count starts)
-
-  pub table_count : count ≡ count_of (net_of b)
-  table_count = length_picked ∙ sym (count_is b)
-
-  start_is : t < count → slice_index starts t ≡ slice_index (picked b) t
-  start_is h = sym (get_or-take count starts t 0 h) ∙ ap (λ xs. slice_index xs t) tied
-
-  pub start_inside : t < count → record_size * slice_index starts t + record_size ≤ length b
-  start_inside h =
-      let h' : t < length (picked b) = omega (arith, length_picked) in
-      omega (arith, (found b t h').inside, start_is h)
-
-  pub start_tells : t < count → Tells b t (record_at b (slice_index starts t))
-  start_tells h =
-      let h' : t < length (picked b) = omega (arith, length_picked) in
-      subst (λ k. Tells b t (record_at b k)) (sym (start_is h)) (tells_at b t h')
-
-  past : count ≤ t → idle ≡ transition (net_of b) t
-  past h = sym (net_past b t (omega (arith, length_picked)))
-
-  pub past_place : count ≤ t → 0 ≡ (transition (net_of b) t).place
-  past_place h = ap (λ x. x.place) (past h)
-
-  pub past_label : count ≤ t → 0 ≡ (transition (net_of b) t).label
-  past_label h = ap (λ x. x.label) (past h)
-
-  pub past_total : count ≤ t → 0 ≡ total_of (transition (net_of b) t)
-  past_total h = ap total_of (past h)
-
-  pub past_tokens : (p : ℕ) → count ≤ t → 0 ≡ tokens_on (transition (net_of b) t) p
-  past_tokens p h = ap (λ x. tokens_on x p) (past h)
-
--- no transition puts tokens past the places
-pub beyond_tokens : (b : List ℕ) (t p : ℕ) → (net_of b).places ≤ p → 0 ≡ tokens_on (transition (net_of b) t) p
-beyond_tokens b t p h = ⊎_elim inside outside (cases_lt t (count_of (net_of b)))
-  where
-    inside : t < count_of (net_of b) → 0 ≡ tokens_on (transition (net_of b) t) p
-    inside l = sym (get_or_past (transition (net_of b) t).puts p 0 (omega (arith, ((net_lawful b).each t l).targets_known)))
-
-    outside : count_of (net_of b) ≤ t → 0 ≡ tokens_on (transition (net_of b) t) p
-    outside l = sym (ap (λ x. tokens_on x p) (get_or_past (net_of b).transitions t idle l))
-
-pub ruleset file_answers = (table_count, past_place, past_label, past_total, past_tokens, beyond_tokens)
 
 -- ## What a file net keeps of an admitted file
 

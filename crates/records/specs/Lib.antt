@@ -1,5 +1,6 @@
 pub mod Layout
 pub mod Entry
+pub mod Records
 pub mod Check
 pub mod Verdict
 pub mod EntryLaws
@@ -7,6 +8,7 @@ pub mod CheckLaws
 pub mod File
 pub mod TargetLaws
 pub mod FileLaws
+pub mod AnswerLaws
 pub mod Tokens
 pub mod Crews
 pub mod Write

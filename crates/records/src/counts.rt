@@ -1,5 +1,5 @@
 // How many places and transitions the records of a file declare, and how many tokens they put on each side.
-#[derive(Clone, Copy, PartialEq, Eq, Debug)]
+#[derive(Clone, Copy, PartialEq, Eq, Default, Debug)]
 pub struct Counts {
     pub places: usize,
     pub transitions: usize,

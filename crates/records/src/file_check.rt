@@ -1,20 +1,19 @@
 // The file check.
-ghost use Rattle.std.specs.Prelude.{◌≡◌, ℕ, ◌<◌, ◌≤◌, length, IfOk};
+ghost use Rattle.std.specs.Prelude.{◌≡◌, ℕ, ◌≤◌, length, IfOk};
 ghost use Rattle.net.specs.Limits.{most_tokens};
 ghost use Rattle.net.specs.Refusals.{Rising};
-ghost use Rattle.records.specs.Layout.{record_size, record_targets};
-ghost use Rattle.records.specs.Entry.{declares, holds, transition_by, reading};
+ghost use Rattle.records.specs.Layout.{record_size};
+ghost use Rattle.records.specs.Entry.{declares, moves, holds, reading};
 ghost use Rattle.records.specs.Check.{admit as admitted, checked};
 ghost use Rattle.records.specs.Crews.{Measures};
 ghost use Rattle.records.specs.Verdict.{Verdict, reasons_at};
 
 use crate::counts::Counts;
-use crate::layout::{
-    MOST_RECORDS, PLACE_KIND, RECORD_SIZE, RECORD_TARGETS, TOKENS_KIND, TRANSITION_KIND,
-};
-use crate::record::{record_at, two_bytes};
-use crate::targets::{declared, well_padded};
-use net::{Fault, MOST_LABEL, MOST_PLACES, MOST_TOKENS, MOST_TRANSITIONS, Refusal};
+use crate::layout::{MOST_RECORDS, RECORD_SIZE};
+use crate::record::{Record, Transition, record_at};
+use crate::targets::declared;
+use crate::tokens::Tokens;
+use net::{Fault, MOST_PLACES, MOST_TOKENS, MOST_TRANSITIONS, Refusal};
 
 // A place record: places are declared in order from 0.
 fn admit_place(number: usize, spot: usize, seen: Counts) -> Result<Counts, Fault>
@@ -32,22 +31,11 @@ fn admit_place(number: usize, spot: usize, seen: Counts) -> Result<Counts, Fault
     })
 }
 
-// A transition record: its label and its total are small, its targets rise with nothing behind them, and its places are declared before it.
-fn admit_transition(
-    place: usize,
-    label: u8,
-    total: usize,
-    targets: &[u8],
-    spot: usize,
-    seen: Counts,
-) -> Result<Counts, Fault>
-    requires { length targets.now ≡ record_targets }
-    ensures { result ≡ admitted (transition_by place label total targets.now) spot seen }
+// A transition record: its places are declared before it.
+fn admit_transition(transition: Transition, spot: usize, seen: Counts) -> Result<Counts, Fault>
+    ensures { result ≡ admitted (moves transition.entry.place transition.entry.label transition.entry.targets.now) spot seen }
 {
-    if label > MOST_LABEL || total > RECORD_TARGETS || !well_padded(total, targets) {
-        return Err(Fault::at(Refusal::MalformedRecord, spot));
-    }
-    if place >= seen.places || !declared(&targets[..total], seen.places) {
+    if transition.place >= seen.places || !declared(transition.targets, seen.places) {
         return Err(Fault::at(Refusal::UndeclaredPlace, spot));
     }
     if seen.transitions >= MOST_TRANSITIONS || spot >= MOST_RECORDS {
@@ -60,27 +48,27 @@ fn admit_transition(
 }
 
 // A token record: its place is declared before it, and its crew has room for the tokens.
-fn admit_tokens(
-    side: u8,
-    place: usize,
-    count: usize,
-    spot: usize,
-    seen: Counts,
-) -> Result<Counts, Fault>
-    requires { (count < 65536) × ((seen.left ≤ most_tokens) × (seen.right ≤ most_tokens)) }
-    ensures { result ≡ admitted (holds side place count) spot seen }
+fn admit_tokens(tokens: Tokens, spot: usize, seen: Counts) -> Result<Counts, Fault>
+    requires left { seen.left ≤ most_tokens }
+    requires right { seen.right ≤ most_tokens }
+    ensures { result ≡ admitted (holds tokens.side tokens.place tokens.count) spot seen }
 {
-    if place >= seen.places {
+    if tokens.place >= seen.places {
         return Err(Fault::at(Refusal::UndeclaredPlace, spot));
     }
     if spot >= MOST_RECORDS {
         return Err(Fault::at(Refusal::OverLimit, spot));
     }
-    let crew = if side == 0 { seen.left } else { seen.right } + count;
-    if crew > MOST_TOKENS as usize {
+    let crew = if tokens.side == 0 {
+        seen.left
+    } else {
+        seen.right
+    };
+    if tokens.count > usize::from(MOST_TOKENS) - crew {
         return Err(Fault::at(Refusal::TooManyTokens, spot));
     }
-    if side == 0 {
+    let crew = crew + tokens.count;
+    if tokens.side == 0 {
         Ok(Counts { left: crew, ..seen })
     } else {
         Ok(Counts {
@@ -90,30 +78,17 @@ fn admit_tokens(
     }
 }
 
-// One record, read by its kind, after records that hold `seen`.
+// One record, after records that hold `seen`.
 fn admit(bytes: &[u8], spot: usize, seen: Counts) -> Result<Counts, Fault>
-    requires { (length bytes.now ≡ record_size) × ((seen.left ≤ most_tokens) × (seen.right ≤ most_tokens)) }
+    requires size { length bytes.now ≡ record_size }
+    requires left { seen.left ≤ most_tokens }
+    requires right { seen.right ≤ most_tokens }
     ensures { result ≡ admitted (reading bytes.now) spot seen }
 {
-    match bytes {
-        [PLACE_KIND, number, 0, 0, 0, 0, 0, 0] => admit_place(*number as usize, spot, seen),
-        [TRANSITION_KIND, place, label, total, targets @ ..] => {
-            admit_transition(
-                *place as usize,
-                *label,
-                *total as usize,
-                targets,
-                spot,
-                seen,
-            )
-        }
-        [TOKENS_KIND, side @ 0..=1, place, 0, high, low, 0, 0] => {
-            admit_tokens(*side, *place as usize, two_bytes(*high, *low), spot, seen)
-        }
-        _ => Err(Fault {
-            refusal: Refusal::MalformedRecord,
-            spot: Some(spot),
-        }),
+    match Record::read(bytes).ok_or(Fault::at(Refusal::MalformedRecord, spot))? {
+        Record::Place(number) => admit_place(number, spot, seen),
+        Record::Transition(transition) => admit_transition(transition, spot, seen),
+        Record::Tokens(tokens) => admit_tokens(tokens, spot, seen),
     }
 }
 
@@ -128,12 +103,8 @@ pub fn check(bytes: &[u8]) -> Result<Counts, Fault>
     if bytes.len() % RECORD_SIZE != 0 {
         return Err(Fault::at(Refusal::PartialRecord, bytes.len() / RECORD_SIZE));
     }
-    let mut seen = Counts {
-        places: 0,
-        transitions: 0,
-        left: 0,
-        right: 0,
-    };
+    let mut seen = Counts::default();
+    // Kept: a record is read by its number, since the number is the spot of its fault.
     for k in 0..bytes.len() / RECORD_SIZE {
         seen = admit(record_at(bytes, k), k, seen)?;
     }

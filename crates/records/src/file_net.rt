@@ -5,13 +5,14 @@ ghost use Rattle.net.specs.Lists.{zeros};
 ghost use Rattle.records.specs.Check.{checked};
 ghost use Rattle.records.specs.File.{sound, admitted_records, picked, net_of};
 ghost use Rattle.records.specs.Crews.{crew_after, crew_of, token_record, Put};
-ghost use Rattle.records.specs.FileLaws.{net_lawful, Tells};
+ghost use Rattle.records.specs.FileLaws.{net_lawful};
+ghost use Rattle.records.specs.AnswerLaws.{Tells};
 
 use crate::counts::Counts;
 use crate::file_check::check;
 use crate::index::index_of;
-use crate::layout::{HEAD_SIZE, RECORD_SIZE};
-use crate::record::record_at;
+use crate::layout::RECORD_SIZE;
+use crate::record::{Transition, record_at};
 use crate::targets::tokens_to;
 use crate::tokens::{Tokens, tokens_in};
 use net::{MOST_TRANSITIONS, Net};
@@ -24,6 +25,7 @@ pub struct FileNet<'a> {
     size: usize,
     places: usize,
     // how many transitions there are, and the numbers of their records
+    // Kept: the file net is copied and takes no memory, so that neither an `ArrayVec` nor a `Vec` can hold the numbers.
     count: usize,
     starts: [u16; MOST_TRANSITIONS],
     ghost whole: { size ≡ admitted_records bytes.now },
@@ -84,22 +86,23 @@ impl<'a> FileNet<'a> {
         requires { Ok seen ≡ checked bytes.now }
         ensures { result.bytes.now ≡ bytes.now }
     {
-        let starts = index_of(bytes);
         FileNet {
             bytes,
             size: bytes.len() / RECORD_SIZE,
             places: seen.places,
             count: seen.transitions,
-            starts,
+            starts: index_of(bytes),
         }
     }
 
-    // The bytes of the record of transition t.
-    fn found(&self, t: usize) -> &[u8]
-        requires { t < self.now.count }
-        ensures { Tells self.now.bytes.now t result.now }
+    // Transition t, as its record says it, or none where there is no such transition.
+    fn transition(&self, t: usize) -> Option<Transition<'_>>
+        ensures { Tells self.now.bytes.now t result }
     {
-        record_at(self.bytes, self.starts[t] as usize)
+        if t >= self.count {
+            return None;
+        }
+        Transition::read(record_at(self.bytes, usize::from(self.starts[t])))
     }
 }
 
@@ -112,37 +115,26 @@ impl<'a> Net for FileNet<'a> {
         self.places
     }
 
+    #[tactic(auto, using(crate::specs::AnswerLaws::table_count))]
     fn transitions(&self) -> usize {
         self.count
     }
 
     fn place(&self, t: usize) -> usize {
-        if t >= self.count {
-            return 0;
-        }
-        self.found(t)[1] as usize
+        self.transition(t).map_or(0, |transition| transition.place)
     }
 
     fn label(&self, t: usize) -> u8 {
-        if t >= self.count {
-            return 0;
-        }
-        self.found(t)[2]
+        self.transition(t).map_or(0, |transition| transition.label)
     }
 
     fn total(&self, t: usize) -> u8 {
-        if t >= self.count {
-            return 0;
-        }
-        self.found(t)[3]
+        self.transition(t)
+            .map_or(0, |transition| transition.targets.len() as u8)
     }
 
     fn tokens(&self, t: usize, p: usize) -> u8 {
-        if t >= self.count || p >= self.places {
-            return 0;
-        }
-        let found = self.found(t);
-        let total = found[3] as usize;
-        tokens_to(&found[HEAD_SIZE..HEAD_SIZE + total], p)
+        self.transition(t)
+            .map_or(0, |transition| tokens_to(transition.targets, p))
     }
 }

@@ -16,13 +16,15 @@ fn place_record(number: u8) -> [u8; RECORD_SIZE]
 
 // Writes the targets of transition t in rising order, and no targets behind them.
 fn put_targets<N: Net>(net: &N, t: usize, targets: &mut [u8])
-    requires { (t < count_of (N.Net.meaning net.now)) × (total_of (transition (N.Net.meaning net.now) t) ≤ length targets.old) }
+    requires in_range { t < count_of (N.Net.meaning net.now) }
+    requires room { total_of (transition (N.Net.meaning net.now) t) ≤ length targets.old }
     ensures { targets.new ≡ filled (length targets.old) (spread (transition (N.Net.meaning net.now) t) (N.Net.meaning net.now).places) }
 {
     targets.fill(NO_TARGET);
     let mut used = 0;
+    // Kept: the targets are written by index, since a contract knows no element of a slice behind the borrow of `iter_mut`.
     for p in 0..net.places() {
-        let count = net.tokens(t, p) as usize;
+        let count = usize::from(net.tokens(t, p));
         targets[used..used + count].fill(p as u8);
         used += count;
     }
@@ -66,6 +68,7 @@ pub fn write<N: Net>(net: &N, out: &mut [u8]) -> Result<usize, Fault>
     if out.len() < RECORD_SIZE * count {
         return Err(Fault::plain(Refusal::ShortList));
     }
+    // Kept: the records are written by index, since a contract knows no element of a slice behind the borrow of `chunks_exact_mut`.
     for k in 0..count {
         let bytes = record_of(net, k);
         out[RECORD_SIZE * k..RECORD_SIZE * k + RECORD_SIZE].copy_from_slice(&bytes);

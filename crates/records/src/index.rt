@@ -3,8 +3,8 @@ ghost use Rattle.std.specs.Prelude.{◌≡◌, true, length, take};
 ghost use Rattle.records.specs.Layout.{record_count};
 ghost use Rattle.records.specs.File.{sound, transition_records};
 
-use crate::layout::{RECORD_SIZE, TRANSITION_KIND};
-use crate::record::record_at;
+use crate::layout::RECORD_SIZE;
+use crate::record::{Transition, record_at};
 use net::MOST_TRANSITIONS;
 
 // The numbers of an admitted file's transition records, in order from the front.
@@ -14,8 +14,9 @@ pub(crate) fn index_of(bytes: &[u8]) -> [u16; MOST_TRANSITIONS]
 {
     let mut count = 0;
     let mut starts = [0u16; MOST_TRANSITIONS];
+    // Kept: the numbers are written by index, since a contract knows no element of an array behind the borrow of `iter_mut`.
     for k in 0..bytes.len() / RECORD_SIZE {
-        if record_at(bytes, k)[0] == TRANSITION_KIND {
+        if Transition::read(record_at(bytes, k)).is_some() {
             starts[count] = k as u16;
             count += 1;
         }

@@ -9,46 +9,30 @@ use crate::layout::NO_TARGET;
 fn rises(targets: &[u8]) -> bool
     ensures { result ≡ rising 0 targets.now }
 {
-    let mut last = 0;
-    for t in targets {
-        if *t < last {
-            return false;
-        }
-        last = *t;
-    }
-    true
+    targets.is_sorted()
 }
 
 // Whether no byte is a target.
 fn blank(rest: &[u8]) -> bool
     ensures { result ≡ all_blank rest.now }
 {
-    for t in rest {
-        if *t != NO_TARGET {
-            return false;
-        }
-    }
-    true
+    rest.iter().all(|t| *t == NO_TARGET)
 }
 
 // Whether the first `total` bytes are targets in rising order and the others are none.
-pub(crate) fn well_padded(total: usize, targets: &[u8]) -> bool
-    requires { total ≤ length targets.now }
-    ensures { result ≡ padded total targets.now }
+pub(crate) fn well_padded(total: usize, bytes: &[u8]) -> bool
+    requires { total ≤ length bytes.now }
+    ensures { result ≡ padded total bytes.now }
 {
-    rises(&targets[..total]) && blank(&targets[total..])
+    let (targets, rest) = bytes.split_at(total);
+    rises(targets) && blank(rest)
 }
 
 // Whether each of the targets is one of the first `places` places.
 pub(crate) fn declared(targets: &[u8], places: usize) -> bool
     ensures { result ≡ below places targets.now }
 {
-    for t in targets {
-        if *t as usize >= places {
-            return false;
-        }
-    }
-    true
+    targets.iter().all(|t| usize::from(*t) < places)
 }
 
 // How many of the targets are the place p.
@@ -56,11 +40,5 @@ pub(crate) fn tokens_to(targets: &[u8], p: usize) -> u8
     requires { length targets.now < 256 }
     ensures { result ≡ tokens_to targets.now p }
 {
-    let mut tokens = 0;
-    for t in targets {
-        if *t as usize == p {
-            tokens += 1;
-        }
-    }
-    tokens
+    targets.iter().filter(|t| usize::from(**t) == p).count() as u8
 }

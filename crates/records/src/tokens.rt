@@ -4,8 +4,7 @@ ghost use Rattle.records.specs.Layout.{record_size};
 ghost use Rattle.records.specs.Entry.{reading};
 ghost use Rattle.records.specs.Tokens.{tokens_said};
 
-use crate::layout::TOKENS_KIND;
-use crate::record::two_bytes;
+use crate::record::Record;
 
 // So many tokens on a place of a side, 0 for the left crew and 1 for the right.
 #[derive(Clone, Copy, PartialEq, Eq, Debug)]
@@ -20,14 +19,8 @@ pub(crate) fn tokens_in(bytes: &[u8]) -> Option<Tokens>
     requires { length bytes.now ≡ record_size }
     ensures { result ≡ tokens_said (reading bytes.now) }
 {
-    match bytes {
-        [TOKENS_KIND, side @ 0..=1, place, 0, high, low, 0, 0] => {
-            Some(Tokens {
-                side: *side as usize,
-                place: *place as usize,
-                count: two_bytes(*high, *low),
-            })
-        }
+    match Record::read(bytes)? {
+        Record::Tokens(tokens) => Some(tokens),
         _ => None,
     }
 }

@@ -11,7 +11,7 @@ use Rattle.records.proofs.file_check.check.Goals as goal
 pub admit-requires : goal.admit-requires
 admit-requires c =
     let few = few_to c.args.bytes.now c.loop-k.k c.loop-k.seen c.loop-k.invariant in
-    (c.record_at.ensures.size, (few.few_left, few.few_right))
+    record { size = c.record_at.ensures.size; left = few.few_left; right = few.few_right }
 
 pub loop-k-preserved : goal.loop-k-preserved
 loop-k-preserved c =

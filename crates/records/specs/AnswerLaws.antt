@@ -1,0 +1,98 @@
+-- The answers of a file's net, as its records say them.
+use Rattle.std.specs.Prelude.{◌≡◌, ℕ, ◌+◌, ◌*◌, ◌<◌, ◌≤◌, true, cond, List, [], ◌∷◌, length, take, Some, None, Option, is_some, IfSome, ◌==◌, nat_lt, slice_index, refl}
+use Rattle.std.specs.Option.{option_map_or}
+use Rattle.std.proofs.Common.{arith, sym, ap, subst, ◌∙◌, ⊎_elim, length-take, get_or-take}
+use Rattle.std.proofs.lemmas.List.{get_or_past}
+use Rattle.std.proofs.lemmas.List.FromFn.{get_or-map-range_with_len}
+use Rattle.std.proofs.lemmas.List.Sums.{sum_by-cons}
+use Rattle.std.proofs.lemmas.Bool.{false≢true, and_parts, ltb-true, ne_eqb, cases_lt}
+use Rattle.net.specs.Meaning.{transition, idle, count_of, tokens_on, total_of}
+use Rattle.records.specs.declared.record.Transition.{Transition as Read}
+use Rattle.records.specs.Layout.{record_size, record_at}
+use Rattle.records.specs.Entry.{moves, is_transition, below, targets_of, reading}
+use Rattle.records.specs.File.{tokens_to, transition_of, net_of, picked}
+use Rattle.records.specs.TargetLaws.{sum_tokens}
+use Rattle.records.specs.FileLaws.{found, net_at, net_past, count_is, net_lawful}
+
+-- what is read of transition t tells each answer about it; none tells 0
+pub record Tells (b : List ℕ) (t : ℕ) (o : Option Read) : Type 0 where
+  pub place : option_map_or (λ x. x.place) o 0 ≡ (transition (net_of b) t).place
+  pub label : option_map_or (λ x. x.label) o 0 ≡ (transition (net_of b) t).label
+  pub total : option_map_or (λ x. length x.targets.now) o 0 ≡ total_of (transition (net_of b) t)
+  pub tokens : (p : ℕ) → option_map_or (λ x. tokens_to x.targets.now p) o 0 ≡ tokens_on (transition (net_of b) t) p
+
+-- ## A transition past the last
+
+tells_past : (b : List ℕ) (t : ℕ) → count_of (net_of b) ≤ t → Tells b t None
+tells_past b t h =
+    let is : idle ≡ transition (net_of b) t = sym (net_past b t (omega (arith, count_is b))) in
+    record { place = ap (λ x. x.place) is; label = ap (λ x. x.label) is; total = ap total_of is; tokens = λ p. ap (λ x. tokens_on x p) is }
+
+-- ## A transition of the file
+
+-- targets that are all known are none of the places past those
+no_tokens : (n p : ℕ) (ts : List ℕ) → n ≤ p → below n ts ≡ true → tokens_to ts p ≡ 0
+no_tokens n p [] h e = refl
+no_tokens n p (t ∷ ts) h e =
+    let both = and_parts (nat_lt t n) (below n ts) e in
+    let small = ltb-true t n both.0 in
+    let other : cond {A = ℕ} (t == p) 1 0 ≡ 0 = ap (λ v. cond v 1 0) (ne_eqb t p (λ e. omega arith)) in
+    omega (arith, sum_by-cons (λ x. cond (x == p) 1 0) t ts, no_tokens n p ts h both.1)
+
+-- no transition puts tokens past the places
+puts_past : (b : List ℕ) (t p : ℕ) → t < count_of (net_of b) → (net_of b).places ≤ p → 0 ≡ tokens_on (transition (net_of b) t) p
+puts_past b t p l h = sym (get_or_past (transition (net_of b) t).puts p 0 (omega (arith, ((net_lawful b).each t l).targets_known)))
+
+-- a record that was read, of the transition with the number t
+module _ (b : List ℕ) (t : ℕ) (h : t < length (picked b)) where
+  tells_some : (x : Read) → reading (record_at b (slice_index (picked b) t)) ≡ moves x.place x.label x.targets.now → Tells b t (Some x)
+  tells_some x e =
+      let n = (net_of b).places in
+      let r = record_at b (slice_index (picked b) t) in
+      let ts = x.targets.now in
+      let placed = (found b t h).placed in
+      let is : transition_of n (moves x.place x.label ts) ≡ transition (net_of b) t = ap (transition_of n) (sym e) ∙ sym (net_at b t h) in
+      let same : targets_of r ≡ ts = cc (e, placed.move.is) in
+      let known : below n ts ≡ true = ap (below n) (sym same) ∙ placed.targets_known in
+      let numbered : t < count_of (net_of b) = omega (arith, count_is b) in
+      record {
+        place = ap (λ x. x.place) is;
+        label = ap (λ x. x.label) is;
+        total = sym (sum_tokens n ts known) ∙ ap total_of is;
+        tokens = λ p. ⊎_elim
+            (λ l. sym (get_or-map-range_with_len (tokens_to ts) 0 n p p 0 l (omega arith)) ∙ ap (λ x. tokens_on x p) is)
+            (λ g. no_tokens n p ts g known ∙ puts_past b t p numbered g)
+            (cases_lt p n);
+      }
+
+  tells_at : (o : Option Read) → is_some o ≡ is_transition (reading (record_at b (slice_index (picked b) t))) → IfSome o (λ x. reading (record_at b (slice_index (picked b) t)) ≡ moves x.place x.label x.targets.now) → Tells b t o
+  tells_at None kind value = absurd (false≢true (kind ∙ ap is_transition (found b t h).placed.move.is))
+  tells_at (Some x) kind value = tells_some x value
+
+-- ## By the table of record numbers that a file net keeps
+
+module _ (b starts : List ℕ) (count : ℕ) (tied : take count starts ≡ picked b) (few : count ≤ length starts) where
+  length_picked : count ≡ length (picked b)
+  length_picked = omega (arith, ap length tied, length-take count starts)
+
+  pub table_count : count ≡ count_of (net_of b)
+  table_count = length_picked ∙ sym (count_is b)
+
+  pub past_tells : (t : ℕ) → count ≤ t → Tells b t None
+  past_tells t h = tells_past b t (omega (arith, table_count))
+
+  -- the number k of the record of transition t
+  module _ (t k : ℕ) (h : t < count) (k_is : k ≡ slice_index starts t) where
+    numbered : t < length (picked b)
+    numbered = omega (arith, length_picked)
+
+    start_is : k ≡ slice_index (picked b) t
+    start_is = k_is ∙ sym (get_or-take count starts t 0 h) ∙ ap (λ xs. slice_index xs t) tied
+
+    pub start_inside : record_size * k + record_size ≤ length b
+    start_inside = omega (arith, (found b t numbered).inside, start_is)
+
+    pub start_tells : (r : List ℕ) → r ≡ record_at b k → (o : Option Read) → is_some o ≡ is_transition (reading r) → IfSome o (λ x. reading r ≡ moves x.place x.label x.targets.now) → Tells b t o
+    start_tells r e o kind value =
+        let r_is : r ≡ record_at b (slice_index (picked b) t) = e ∙ ap (record_at b) start_is in
+        tells_at b t numbered o (kind ∙ ap (λ r. is_transition (reading r)) r_is) (subst (λ r. IfSome o (λ x. reading r ≡ moves x.place x.label x.targets.now)) r_is value)
