@@ -13,16 +13,13 @@ impl Crewed<'_> {
     {
         let lefts = self.class_sums(self.left);
         let rights = self.class_sums(self.right);
-        for class in 0..self.classes.len() {
-            if lefts[class] != rights[class] {
-                return Some(Difference {
-                    class,
-                    left: lefts[class],
-                    right: rights[class],
-                });
-            }
-        }
-        None
+        (0..self.classes.len())
+            .find(|&class| lefts[class] != rights[class])
+            .map(|class| Difference {
+                class,
+                left: lefts[class],
+                right: rights[class],
+            })
     }
 
     // How many tokens of a crew each class holds.
