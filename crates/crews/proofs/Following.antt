@@ -1,5 +1,5 @@
 -- How follow ends: y is the table on its side, z the one across.
-use Rattle.std.proofs.Common.{◌≡◌, ℕ, ◌+◌, ◌-◌, ◌<◌, ◌≤◌, Bool, true, false, cond, eqb, ◌⊎◌, List, ◌++◌, length, get_or, take, is_some, Some, None, Ok, Err, sum, Option, sym, refl, ap, ◌∙◌, subst, inl, inr, arith}
+use Rattle.std.proofs.Common.{◌≡◌, ℕ, ◌+◌, ◌-◌, ◌<◌, ◌≤◌, Bool, true, false, cond, eqb, ◌⊎◌, List, ◌++◌, length, get_or, is_some, Some, None, Ok, Err, sum, Option, sym, refl, ap, ◌∙◌, subst, inl, inr, arith}
 use Rattle.std.proofs.lemmas.Bool.{cases_eq}
 use Rattle.net.specs.Meaning.{Meaning, transition, total_of}
 use Rattle.net.specs.Limits.{Lawful}
@@ -17,14 +17,17 @@ use Rattle.crews.specs.Calls.{not_ready}
 use Rattle.crews.specs.Counting.{DiffersAt, Found}
 use Rattle.crews.specs.Following.{unlike, overfull, followed, FitsBy}
 use Rattle.crews.specs.Tally.{Step, followed_by}
-use Rattle.crews.specs.Shows.{Holds, Shows, Steps, Ready, table_on, with_table}
+use Rattle.crews.specs.Shows.{Holds, Shows, Steps, Ready, LaidOut, table_on, with_table}
 use Rattle.crews.specs.declared.bench.Bench.{Bench}
 use Rattle.crews.specs.declared.crew.Crew.{Crew}
+use Rattle.crews.specs.Verdicts.{ApartBy}
+use Rattle.crews.specs.declared.crewed.Crewed.{Crewed}
 use Rattle.crews.specs.declared.swap.Difference.{Difference}
 use Rattle.crews.specs.declared.call.Call.TheVariants.{Follow}
 use Rattle.crews.specs.declared.call.Answer.TheVariants.{Followed}
 use Rattle.crews.proofs.Answering.{fits_from_by, by_from_fits, paired_sum, fits_total, paired_across, some_fits, answered, sum_across}
-use Rattle.crews.proofs.Judging.{judged_alike, judged_apart}
+use Rattle.crews.proofs.Judging.{crews_on, judged_alike, judged_apart}
+use Rattle.crews.proofs.LayingOut.{shown_is}
 use Rattle.crews.proofs.Steps.{stays, free_ready, sum_side, sum_ready, holds_after, same_tokens}
 use Rattle.crews.proofs.Tables.{FrontOf, front_of_holds, front_of_take, holds_sum, holds_fired, shows_side}
 
@@ -72,28 +75,28 @@ both_net {N} b b' s x w eb = ap (λ a. a.net) eb ∙ by_sides (eqb s 0) (eqb (1 
 
 -- ## What the comparison found
 
-pub found_some : (n : ℕ) (cs xs ys : List ℕ) (o : Option Difference) → is_some o ≡ true → Found n cs xs ys o → (d : Difference) × DiffersAt n cs xs ys d
-found_some n cs xs ys (Some d) e f = (d, f)
-found_some n cs xs ys None e f = let z : ◌≡◌ {A = ℕ} 0 1 = cc in absurd (omega arith)
+pub found_some : (x : Crewed) (o : Option Difference) → is_some o ≡ true → Found x o → (d : Difference) × DiffersAt x d
+found_some x (Some d) e f = (d, f)
+found_some x None e f = absurd (cc)
 
-pub found_none : (n : ℕ) (cs xs ys : List ℕ) (o : Option Difference) → is_some o ≡ false → Found n cs xs ys o → Found n cs xs ys None
-found_none n cs xs ys (Some d) e f = let z : ◌≡◌ {A = ℕ} 0 1 = cc in absurd (omega arith)
-found_none n cs xs ys None e f = f
+pub found_none : (x : Crewed) (o : Option Difference) → is_some o ≡ false → Found x o → Found x None
+found_none x (Some d) e f = absurd (cc)
+found_none x None e f = f
 
 -- ## Follow
 
-module _ {N : Type 0} (m : Meaning) (b : Bench N) (s t : ℕ) (y z : Crew) (law : Lawful m) (ready : Ready m b s t y) (ez : z ≡ table_on b (1 - s)) (cs : List ℕ) (classed : ClassedBy m cs) where
-  pub follow_apart : (d : Difference) → DiffersAt m.places cs b.left.counts b.right.counts d → (f : Fault) → f ≡ plain CrewsApart → Steps m b (Follow s t) (Err f) b
+module _ {N : Type 0} (m : Meaning) (b : Bench N) (s t : ℕ) (y z : Crew) (law : Lawful m) (ready : Ready m b s t y) (ez : z ≡ table_on b (1 - s)) (x : Crewed) (laid : LaidOut m b x) where
+  pub follow_apart : (d : Difference) → DiffersAt x d → (f : Fault) → f ≡ plain CrewsApart → Steps m b (Follow s t) (Err f) b
   follow_apart d at f ef = stays m b (Follow s t) f
       (λ c h. first_back (not_ready m c s t) (unlike m c ++ overfull m c s t) f (free_ready m b s t y law ready c h)
-      (inl ((judged_apart m law cs classed c b.left.counts b.right.counts (front_of_holds _ _ _ h.left) (front_of_holds _ _ _ h.right) d at).unpaired, sym ef)))
+      (inl ((subst (λ a. ApartBy m a d) (shown_is m b x c laid h) (judged_apart m law x laid.places laid.classed d at)).unpaired, sym ef)))
 
-  module _ (level : Found m.places cs b.left.counts b.right.counts None) where
-    paired_by : (c : Crews) → FrontOf m.places b.left.counts c.left → FrontOf m.places b.right.counts c.right → Paired m c.left c.right
-    paired_by c fl fr = (judged_alike m law cs classed c b.left.counts b.right.counts fl fr level).paired
+  module _ (level : Found x None) where
+    paired_here : Paired m x.left.now x.right.now
+    paired_here = (judged_alike m law x laid.places laid.classed level).paired
 
     paired_shown : (c : Crews) → Shows m b c → Paired m c.left c.right
-    paired_shown c h = paired_by c (front_of_holds _ _ _ h.left) (front_of_holds _ _ _ h.right)
+    paired_shown c h = subst (λ a. Paired m a.left a.right) (shown_is m b x c laid h) paired_here
 
     enabled_shown : (c : Crews) → Shows m b c → 0 < get_or (on_side c s) (transition m t).place 0
     enabled_shown c h = omega (arith, ready.token, same_tokens m b s t y law ready c h)
@@ -126,15 +129,15 @@ module _ {N : Type 0} (m : Meaning) (b : Bench N) (s t : ℕ) (y z : Crew) (law 
 
     -- ### A transition that fits, whatever stands beyond the places
 
-    module _ (wl : length b.left.counts ≡ 128) (wr : length b.right.counts ≡ 128) where
+    module _ (wl : length b.left.counts ≡ 128) (wr : length b.right.counts ≡ 128) (cs : List ℕ) (classed : ClassedBy m cs) where
       abbrev fronts : Crews
-      fronts = record { left = take m.places b.left.counts; right = take m.places b.right.counts }
+      fronts = crews_on x
 
       front_left : FrontOf m.places b.left.counts fronts.left
-      front_left = front_of_take m.places b.left.counts (omega (arith, law.few_places, wl))
+      front_left = subst (FrontOf m.places b.left.counts) (sym laid.left) (front_of_take m.places b.left.counts (omega (arith, law.few_places, wl)))
 
       front_right : FrontOf m.places b.right.counts fronts.right
-      front_right = front_of_take m.places b.right.counts (omega (arith, law.few_places, wr))
+      front_right = subst (FrontOf m.places b.right.counts) (sym laid.right) (front_of_take m.places b.right.counts (omega (arith, law.few_places, wr)))
 
       front_side : FrontOf m.places y.counts (on_side fronts s)
       front_side = subst (λ x. FrontOf m.places x.counts (on_side fronts s)) (sym ready.is_table) (by_side (eqb s 0))
@@ -154,7 +157,7 @@ module _ {N : Type 0} (m : Meaning) (b : Bench N) (s t : ℕ) (y z : Crew) (law 
       some_answer =
           let place : (transition m t).place < m.places = (law.each t ready.known).place_known in
           let on : 0 < get_or (on_side fronts s) (transition m t).place 0 = omega (arith, ready.token, front_side.at (transition m t).place place) in
-          let (u, f) = some_fits m law fronts s t (paired_by fronts front_left front_right) ready.known on in
+          let (u, f) = some_fits m law fronts s t paired_here ready.known on in
           (u, by_from_fits m law cs classed t u ready.known z.counts (across fronts s) front_across f)
 
       module _ (u : ℕ) (fits : FitsBy m cs z.counts t u) where
@@ -168,7 +171,7 @@ module _ {N : Type 0} (m : Meaning) (b : Bench N) (s t : ℕ) (y z : Crew) (law 
 
     -- ### Accepted
 
-    module _ (u : ℕ) (fits : FitsBy m cs z.counts t u) where
+    module _ (cs : List ℕ) (classed : ClassedBy m cs) (u : ℕ) (fits : FitsBy m cs z.counts t u) where
       fits_shown : (c : Crews) → Shows m b c → Fits m t u (across c s)
       fits_shown c h =
           fits_from_by m law cs classed t u ready.known z.counts (across c s) (front_of_holds m.places z.counts (across c s) (shows_across m b s z c ready.side_known ez h)) fits

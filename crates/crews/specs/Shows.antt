@@ -7,11 +7,14 @@ use Rattle.net.specs.Lists.{zeros}
 use Rattle.net.specs.Refusals.{when, First}
 use Rattle.net.specs.declared.refusal.Refusal.TheVariants.{ShortList}
 use Rattle.net.specs.declared.refusal.Fault.{Fault}
+use Rattle.team.specs.Classes.{ClassedBy}
 use Rattle.crews.specs.Crews.{Crews}
+use Rattle.crews.specs.Counting.{places_of}
 use Rattle.crews.specs.Calls.{not_ready}
 use Rattle.crews.specs.Tally.{Step, Event, Run, events}
 use Rattle.crews.specs.declared.bench.Bench.{Bench}
 use Rattle.crews.specs.declared.crew.Crew.{Crew}
+use Rattle.crews.specs.declared.crewed.Crewed.{Crewed}
 use Rattle.crews.specs.declared.call.Call.{Call}
 use Rattle.crews.specs.declared.call.Answer.{Answer}
 use Rattle.crews.specs.declared.call.Answer.TheVariants.{Alike, Apart}
@@ -28,6 +31,13 @@ pub record Holds (n : ℕ) (table crew : List ℕ) : Type 0 where
 pub record Shows {N : Type 0} (m : Meaning) (b : Bench N) (c : Crews) : Type 0 where
   pub left : Holds m.places b.left.counts c.left
   pub right : Holds m.places b.right.counts c.right
+
+-- The two crews of b on the places of its net, with the class of each place.
+pub record LaidOut {N : Type 0} (m : Meaning) (b : Bench N) (x : Crewed) : Type 0 where
+  pub places : places_of x ≡ m.places
+  pub classed : ClassedBy m x.classes.now
+  pub left : x.left.now ≡ take m.places b.left.counts
+  pub right : x.right.now ≡ take m.places b.right.counts
 
 -- the table on side s, and the bench with another in its place
 abbrev pub table_on : {N : Type 0} → Bench N → ℕ → Crew

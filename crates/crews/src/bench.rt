@@ -5,11 +5,12 @@ ghost use Rattle.net.specs.Refusals.{Tried};
 ghost use Rattle.team.specs.Classes.{ClassedBy};
 ghost use Rattle.crews.specs.Crews.{nobody};
 ghost use Rattle.crews.specs.Calls.{unknown};
-ghost use Rattle.crews.specs.Shows.{Shows, Steps, ReadyOr, table_on, with_table, answer_of};
+ghost use Rattle.crews.specs.Shows.{Shows, Steps, ReadyOr, LaidOut, table_on, with_table, answer_of};
 ghost use Rattle.crews.specs.declared.call.Call.TheVariants.{Put, Take, Fire, Count};
 ghost use Rattle.crews.specs.declared.call.Answer.TheVariants.{Done, Tokens};
 
 use crate::crew::Crew;
+use crate::crewed::Crewed;
 use classing::{ClassTable, Partition};
 use net::{Fault, Net, Refusal};
 
@@ -100,6 +101,19 @@ impl<N: Net> Bench<N> {
         ensures { ClassedBy (N.Net.meaning self.now.net) result.classes }
     {
         Partition::of(&self.net).table
+    }
+
+    // The two crews, on the net's places and by their classes.
+    pub(crate) fn crewed<'a>(&'a self, table: &'a ClassTable) -> Crewed<'a>
+        requires { ClassedBy (N.Net.meaning self.now.net) table.now.classes }
+        ensures { LaidOut (N.Net.meaning self.now.net) self.now result }
+    {
+        let places = self.net.places();
+        Crewed {
+            classes: &table.classes[..places],
+            left: &self.left.counts[..places],
+            right: &self.right.counts[..places],
+        }
     }
 
     // Refuses a side or a place that there is not.

@@ -5,7 +5,6 @@ ghost use Rattle.crews.specs.declared.call.Call.TheVariants.{Follow};
 ghost use Rattle.crews.specs.declared.call.Answer.TheVariants.{Followed};
 
 use crate::Bench;
-use crate::counting::difference;
 use crate::search::answering;
 use net::{Fault, Net, Refusal};
 
@@ -16,9 +15,7 @@ impl<N: Net> Bench<N> {
     {
         let mut crew = self.ready(side, transition)?;
         let table = self.class_table();
-        let left = self.left.counts;
-        let right = self.right.counts;
-        if difference(self.net.places(), &table.classes, &left, &right).is_some() {
+        if self.crewed(&table).difference().is_some() {
             return Err(Fault::plain(Refusal::CrewsApart));
         }
         let mut other = self.crew(1 - side);

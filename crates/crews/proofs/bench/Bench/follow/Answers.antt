@@ -1,6 +1,5 @@
-use Rattle.std.proofs.Common.{◌≡◌, ℕ, ◌-◌, ◌++◌, length, sym, refl, ap, ◌∙◌, subst, inl, inr, arith, rules}
+use Rattle.std.proofs.Common.{◌≡◌, ◌-◌, ◌++◌, length, sym, refl, ap, ◌∙◌, inl, inr, arith, rules}
 use Rattle.std.proofs.lemmas.Result.{err_from_is_err_and}
-use Rattle.crews.specs.Counting.{Found}
 use Rattle.crews.specs.Following.{unlike, overfull}
 use Rattle.crews.specs.Shows.{with_table}
 use Rattle.crews.specs.declared.call.Call.TheVariants.{Follow}
@@ -23,9 +22,8 @@ returns-then-is_some g c =
     let b = c.args.self.now in
     let m = g.N.Net.meaning b.net in
     let cs = c.class_table-table.result.classes in
-    let found = subst (λ (k : ℕ). Found k cs b.left.counts b.right.counts c.difference.result) c.places.ensures c.difference.ensures in
-    let (d, at) = found_some m.places cs b.left.counts b.right.counts c.difference.result (sym c.is_some.ensures ∙ c.if-is_some.true) found in
-    follow_apart m b c.args.side c.args.transition c.in_ok-crew.crew _ (g.N.Net.lawful b.net) c.in_ok-crew.ensures refl cs c.class_table-table.ensures d at
+    let (d, at) = found_some c.crewed.result c.difference.result (sym c.is_some.ensures ∙ c.if-is_some.true) c.difference.ensures in
+    follow_apart m b c.args.side c.args.transition c.in_ok-crew.crew _ (g.N.Net.lawful b.net) c.in_ok-crew.ensures refl c.crewed.result c.crewed.ensures d at
     c.plain.result c.plain.ensures
 
 pub answering-answer-requires : goal.answering-answer-requires
@@ -35,13 +33,12 @@ answering-answer-requires g c =
     let law = g.N.Net.lawful b.net in
     let cs = c.class_table-table.result.classes in
     let ready = c.in_ok-crew.ensures in
-    let found = subst (λ (k : ℕ). Found k cs b.left.counts b.right.counts c.difference.result) c.places.ensures c.difference.ensures in
-    let level = found_none m.places cs b.left.counts b.right.counts c.difference.result (sym c.is_some.ensures ∙ c.if-is_some.false) found in
+    let level = found_none c.crewed.result c.difference.result (sym c.is_some.ensures ∙ c.if-is_some.false) c.difference.ensures in
     record {
       known = ready.known;
       named = λ p l. omega (arith, l, (c.class_table-table.ensures.lowest p l).most);
-      some = some_answer m b c.args.side c.args.transition c.in_ok-crew.crew c.crew-other.result law ready c.crew-other.ensures cs c.class_table-table.ensures level
-          (search rules) (search rules);
+      some = some_answer m b c.args.side c.args.transition c.in_ok-crew.crew c.crew-other.result law ready c.crew-other.ensures c.crewed.result c.crewed.ensures level
+          (search rules) (search rules) cs c.class_table-table.ensures;
     }
 
 pub fire-requires : goal.fire-requires
@@ -62,11 +59,10 @@ fire-requires-2 g c =
     let cs = c.class_table-table.result.classes in
     let z = c.crew-other.result in
     let fits = c.answering-answer.ensures in
-    let found = subst (λ (k : ℕ). Found k cs b.left.counts b.right.counts c.difference.result) c.places.ensures c.difference.ensures in
-    let level = found_none m.places cs b.left.counts b.right.counts c.difference.result (sym c.is_some.ensures ∙ c.if-is_some.false) found in
+    let level = found_none c.crewed.result c.difference.result (sym c.is_some.ensures ∙ c.if-is_some.false) c.difference.ensures in
     let whole : length z.counts ≡ 128 = search rules in
-    let all = sum_answer m b c.args.side c.args.transition c.in_ok-crew.crew z law c.in_ok-crew.ensures c.crew-other.ensures cs c.class_table-table.ensures level
-    (search rules) (search rules) c.answering-answer.result fits whole in
+    let all = sum_answer m b c.args.side c.args.transition c.in_ok-crew.crew z law c.in_ok-crew.ensures c.crew-other.ensures c.crewed.result c.crewed.ensures level
+    (search rules) (search rules) cs c.class_table-table.ensures c.answering-answer.result fits whole in
     record { known = fits.known; there = fits.token; fits = omega (arith, all, c.if-total-room-2.false, c.room-else-total-room.ensures, c.total.ensures, c.from-total.ensures) }
 
 pub returns : goal.returns
@@ -77,13 +73,12 @@ returns g c =
     let cs = c.class_table-table.result.classes in
     let y = c.in_ok-crew.crew in
     let ready = c.in_ok-crew.ensures in
-    let found = subst (λ (k : ℕ). Found k cs b.left.counts b.right.counts c.difference.result) c.places.ensures c.difference.ensures in
-    let level = found_none m.places cs b.left.counts b.right.counts c.difference.result (sym c.is_some.ensures ∙ c.if-is_some.false) found in
+    let level = found_none c.crewed.result c.difference.result (sym c.is_some.ensures ∙ c.if-is_some.false) c.difference.ensures in
     let whole : length y.counts ≡ 128 = search rules in
     let all = sum_ready m b c.args.side c.args.transition y law ready whole in
     let after = c.replace-2.ensures ∙ ap (λ a. with_table a (1 - c.args.side) c.fire-2.new.self) c.replace.ensures in
-    follow_steps m b c.args.side c.args.transition y c.crew-other.result law ready c.crew-other.ensures cs c.class_table-table.ensures level
-    c.answering-answer.result c.answering-answer.ensures c.replace-2.new.self c.fire.new.self c.fire-2.new.self after c.fire.ensures c.fire-2.ensures
+    follow_steps m b c.args.side c.args.transition y c.crew-other.result law ready c.crew-other.ensures c.crewed.result c.crewed.ensures level
+    cs c.class_table-table.ensures c.answering-answer.result c.answering-answer.ensures c.replace-2.new.self c.fire.new.self c.fire-2.new.self after c.fire.ensures c.fire-2.ensures
     (omega (arith, all, c.if-total-room.false, c.room.ensures, c.total.ensures, c.from-total.ensures))
 
 pub returns-then-total-room : goal.returns-then-total-room
@@ -94,10 +89,9 @@ returns-then-total-room g c =
     let cs = c.class_table-table.result.classes in
     let y = c.in_ok-crew.crew in
     let ready = c.in_ok-crew.ensures in
-    let found = subst (λ (k : ℕ). Found k cs b.left.counts b.right.counts c.difference.result) c.places.ensures c.difference.ensures in
-    let level = found_none m.places cs b.left.counts b.right.counts c.difference.result (sym c.is_some.ensures ∙ c.if-is_some.false) found in
+    let level = found_none c.crewed.result c.difference.result (sym c.is_some.ensures ∙ c.if-is_some.false) c.difference.ensures in
     let whole : length y.counts ≡ 128 = search rules in
-    let full = follow_full m b c.args.side c.args.transition y c.crew-other.result law ready c.crew-other.ensures cs c.class_table-table.ensures level
+    let full = follow_full m b c.args.side c.args.transition y c.crew-other.result law ready c.crew-other.ensures c.crewed.result c.crewed.ensures level
     c.plain-then-total-room.result c.plain-then-total-room.ensures whole in
     elim c.then-total-room.branch [
       | then-total-room-via-then-total-room w ↦ full (inl (omega (arith, w.if-total-room.true, c.room.ensures, c.total.ensures, c.from-total.ensures)))
