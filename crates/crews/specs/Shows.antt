@@ -1,5 +1,5 @@
 -- The crews that a bench holds, and what a call on a bench does to them.
-use Rattle.std.specs.Prelude.{◌≡◌, ℕ, ◌-◌, ◌<◌, ◌≤◌, cond, List, [], ◌∷◌, ◌++◌, length, take, drop, Ok, Err, Result, ◌==◌, slice_index}
+use Rattle.std.specs.Prelude.{◌≡◌, ℕ, ◌-◌, ◌<◌, ◌≤◌, List, [], ◌∷◌, ◌++◌, length, take, drop, Ok, Err, Result, slice_index}
 use Rattle.std.specs.Result.{result_map_both}
 use Rattle.net.specs.Meaning.{Meaning, transition, count_of}
 use Rattle.net.specs.Limits.{most_places}
@@ -10,11 +10,14 @@ use Rattle.net.specs.declared.refusal.Fault.{Fault}
 use Rattle.team.specs.Classes.{ClassedBy}
 use Rattle.crews.specs.Crews.{Crews}
 use Rattle.crews.specs.Counting.{places_of}
-use Rattle.crews.specs.Calls.{not_ready}
+use Rattle.crews.specs.Calls.{unknown, not_ready}
+use Rattle.crews.specs.Sides.{number_of}
 use Rattle.crews.specs.Tally.{Step, Event, Run, events}
 use Rattle.crews.specs.declared.bench.Bench.{Bench}
 use Rattle.crews.specs.declared.crew.Crew.{Crew}
 use Rattle.crews.specs.declared.crewed.Crewed.{Crewed}
+use Rattle.crews.specs.declared.side.Side.{Side}
+use Rattle.crews.specs.declared.side.Side.TheVariants.{Left, Right}
 use Rattle.crews.specs.declared.call.Call.{Call}
 use Rattle.crews.specs.declared.call.Answer.{Answer}
 use Rattle.crews.specs.declared.call.Answer.TheVariants.{Alike, Apart}
@@ -39,27 +42,37 @@ pub record LaidOut {N : Type 0} (m : Meaning) (b : Bench N) (x : Crewed) : Type 
   pub left : x.left.now ≡ take m.places b.left.counts
   pub right : x.right.now ≡ take m.places b.right.counts
 
--- the table on side s, and the bench with another in its place
-abbrev pub table_on : {N : Type 0} → Bench N → ℕ → Crew
-table_on b s = cond (s == 0) b.left b.right
+-- the table on a side, and the bench with another in its place
+abbrev pub table_on : {N : Type 0} → Bench N → Side → Crew
+table_on b Left = b.left
+table_on b Right = b.right
 
-abbrev pub with_table : {N : Type 0} → Bench N → ℕ → Crew → Bench N
-with_table b s x = cond (s == 0) (record { net = b.net; left = x; right = b.right }) (record { net = b.net; left = b.left; right = x })
+abbrev pub with_table : {N : Type 0} → Bench N → Side → Crew → Bench N
+with_table b Left y = record { net = b.net; left = y; right = b.right }
+with_table b Right y = record { net = b.net; left = b.left; right = y }
+
+-- The number s names the side, and i is below the count.
+pub record Known (count s i : ℕ) (side : Side) : Type 0 where
+  pub number : s ≡ number_of side
+  pub below : i < count
+
+abbrev pub KnownOr : ℕ → ℕ → ℕ → Result Side Fault → Type 0
+KnownOr count s i (Ok side) = Known count s i side
+KnownOr count s i (Err f) = First (unknown count s i) f
 
 -- From the crews that b holds the call is answered so, and leads to those that b' holds. Its net stays as it was.
 pub record Steps {N : Type 0} (m : Meaning) (b : Bench N) (call : Call) (a : Result Answer Fault) (b' : Bench N) : Type 0 where
   pub same : b'.net ≡ b.net
   pub leads : (c : Crews) → Shows m b c → (d : Crews) × Shows m b' d × Step m c call a d
 
--- The table on side s with a token on the place of t, or the first of the reasons that there is none.
-pub record Ready {N : Type 0} (m : Meaning) (b : Bench N) (s t : ℕ) (y : Crew) : Type 0 where
-  pub is_table : y ≡ table_on b s
-  pub side_known : s ≤ 1
+-- The side that s names, where its table has a token on the place of t, or the first of the reasons that it has none.
+pub record Ready {N : Type 0} (m : Meaning) (b : Bench N) (s t : ℕ) (side : Side) : Type 0 where
+  pub number : s ≡ number_of side
   pub known : t < count_of m
-  pub token : 1 ≤ slice_index y.counts (transition m t).place
+  pub token : 1 ≤ slice_index (table_on b side).counts (transition m t).place
 
-abbrev pub ReadyOr : {N : Type 0} → Meaning → Bench N → ℕ → ℕ → Result Crew Fault → Type 0
-ReadyOr m b s t (Ok y) = Ready m b s t y
+abbrev pub ReadyOr : {N : Type 0} → Meaning → Bench N → ℕ → ℕ → Result Side Fault → Type 0
+ReadyOr m b s t (Ok side) = Ready m b s t side
 ReadyOr m b s t (Err f) = (c : Crews) → Shows m b c → First (not_ready m c s t) f
 
 -- what a call answers, from what the bench's method for it answers

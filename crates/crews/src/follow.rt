@@ -13,12 +13,14 @@ impl<N: Net> Bench<N> {
     pub fn follow(&mut self, side: usize, transition: usize) -> Result<usize, Fault>
         ensures { Steps (N.Net.meaning self.old.net) self.old (Follow side transition) (answer_of Followed result) self.new }
     {
-        let mut crew = self.ready(side, transition)?;
+        let side = self.ready(side, transition)?;
         let table = self.class_table();
         if self.crewed(&table).difference().is_some() {
             return Err(Fault::plain(Refusal::CrewsApart));
         }
-        let mut other = self.crew(1 - side);
+        let mut crew = self.crew(side);
+        let across = side.other();
+        let mut other = self.crew(across);
         let total = usize::from(self.net.total(transition));
         if total > crew.room() + 1 || total > other.room() + 1 {
             return Err(Fault::plain(Refusal::TooManyTokens));
@@ -27,7 +29,7 @@ impl<N: Net> Bench<N> {
         crew.fire(&self.net, transition);
         other.fire(&self.net, answer);
         self.replace(side, crew);
-        self.replace(1 - side, other);
+        self.replace(across, other);
         Ok(answer)
     }
 }

@@ -11,6 +11,7 @@ mod follow;
 mod pairing;
 mod runs;
 mod search;
+mod side;
 mod swap;
 mod texts;
 
