@@ -1,5 +1,5 @@
 -- Tables of 128 entries that hold crews.
-use Rattle.std.proofs.Common.{◌≡◌, ℕ, ◌+◌, ◌-◌, ◌<◌, ◌≤◌, Bool, true, false, cond, eqb, List, length, get_or, take, set, sum, sym, refl, ap, ◌∙◌, subst, arith}
+use Rattle.std.proofs.Common.{◌≡◌, ℕ, ◌+◌, ◌-◌, ◌<◌, ◌≤◌, List, length, get_or, take, set, sum, sym, refl, ap, ◌∙◌, arith}
 use Rattle.std.proofs.lemmas.List.{replicate-append-replicate, length-replicate, length-set, get_or_append_left, set-append_left, length-take-le, get_or-take}
 use Rattle.net.specs.Meaning.{Meaning, transition, count_of}
 use Rattle.net.specs.Limits.{Lawful}
@@ -7,9 +7,12 @@ use Rattle.net.specs.Lists.{zeros, sum_append_zeros}
 use Rattle.net.specs.Markings.{fired}
 use Rattle.net.proofs.Markings.{fired_append, length_fired}
 use Rattle.crews.specs.Crews.{Crews, on_side, with_side}
+use Rattle.crews.specs.Sides.{number_of}
 use Rattle.crews.specs.Shows.{Holds, Shows, table_on, with_table}
 use Rattle.crews.specs.declared.bench.Bench.{Bench}
 use Rattle.crews.specs.declared.crew.Crew.{Crew}
+use Rattle.crews.specs.declared.side.Side.{Side}
+use Rattle.crews.specs.declared.side.Side.TheVariants.{Left, Right}
 
 -- ## One table
 
@@ -53,27 +56,27 @@ front_of_holds n table crew h = record { each = h.each; at = λ p l. holds_get_o
 pub front_of_take : (n : ℕ) (table : List ℕ) → n ≤ length table → FrontOf n table (take n table)
 front_of_take n table l = record { each = length-take-le n table l; at = λ p k. sym (get_or-take n table p 0 k) }
 
--- ## A table of a bench
+-- ## A table of a bench, on the side that the number s names
 
-pub shows_side : {N : Type 0} (m : Meaning) (b : Bench N) (s : ℕ) (y : Crew) (c : Crews) → y ≡ table_on b s → Shows m b c → Holds m.places y.counts (on_side c s)
-shows_side m b s y c ey h = subst (λ z. Holds m.places z.counts (on_side c s)) (sym ey) (by_side (eqb s 0))
+pub shows_side : {N : Type 0} (m : Meaning) (b : Bench N) (s : ℕ) (side : Side) (y : Crew) (c : Crews) → s ≡ number_of side → y ≡ table_on b side → Shows m b c
+    → Holds m.places y.counts (on_side c s)
+shows_side m b s side y c es ey h = rw (es, ey) (by_side side)
   where
-    by_side : (v : Bool) → Holds m.places (cond v b.left b.right).counts (cond v c.left c.right)
-    by_side true = h.left
-    by_side false = h.right
+    by_side : (side : Side) → Holds m.places (table_on b side).counts (on_side c (number_of side))
+    by_side Left = h.left
+    by_side Right = h.right
 
-pub shows_with : {N : Type 0} (m : Meaning) (b b' : Bench N) (s : ℕ) (x : Crew) (c : Crews) (xs : List ℕ) → b' ≡ with_table b s x → Shows m b c → Holds m.places x.counts xs → Shows m b' (with_side c s xs)
-shows_with {N} m b b' s x c xs eb h k = subst (λ z. Shows m z (with_side c s xs)) (sym eb) (by_side (eqb s 0))
+pub shows_with : {N : Type 0} (m : Meaning) (b b' : Bench N) (s : ℕ) (side : Side) (x : Crew) (c : Crews) (xs : List ℕ) → s ≡ number_of side → b' ≡ with_table b side x → Shows m b c
+    → Holds m.places x.counts xs → Shows m b' (with_side c s xs)
+shows_with m b b' s side x c xs es eb h k = rw (es, eb) (by_side side)
   where
-    by_side : (v : Bool)
-        → Shows m (cond {A = Bench N} v (record { net = b.net; left = x; right = b.right }) (record { net = b.net; left = b.left; right = x }))
-        (cond v (record { left = xs; right = c.right }) (record { left = c.left; right = xs }))
-    by_side true = record { left = k; right = h.right }
-    by_side false = record { left = h.left; right = k }
+    by_side : (side : Side) → Shows m (with_table b side x) (with_side c (number_of side) xs)
+    by_side Left = record { left = k; right = h.right }
+    by_side Right = record { left = h.left; right = k }
 
-pub with_table_net : {N : Type 0} (b b' : Bench N) (s : ℕ) (x : Crew) → b' ≡ with_table b s x → b'.net ≡ b.net
-with_table_net {N} b b' s x eb = ap (λ z. z.net) eb ∙ by_side (eqb s 0)
+pub with_table_net : {N : Type 0} (b b' : Bench N) (side : Side) (x : Crew) → b' ≡ with_table b side x → b'.net ≡ b.net
+with_table_net b b' side x eb = ap (λ a. a.net) eb ∙ by_side side
   where
-    by_side : (v : Bool) → (cond {A = Bench N} v (record { net = b.net; left = x; right = b.right }) (record { net = b.net; left = b.left; right = x })).net ≡ b.net
-    by_side true = refl
-    by_side false = refl
+    by_side : (side : Side) → (with_table b side x).net ≡ b.net
+    by_side Left = refl
+    by_side Right = refl

@@ -1,6 +1,7 @@
 pub mod Crews
 pub mod Calls
 pub mod Tally
+pub mod Sides
 pub mod Shows
 pub mod Swaps
 pub mod Pairs
@@ -8,3 +9,4 @@ pub mod Counting
 pub mod Following
 pub mod Verdicts
 pub mod Compares
+pub mod Texts

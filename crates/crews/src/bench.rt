@@ -1,14 +1,14 @@
 // The bench: two crews on the places of one net, and the calls that move their tokens.
 ghost use Rattle.std.specs.Prelude.{◌≡◌};
-ghost use Rattle.net.specs.Meaning.{count_of};
-ghost use Rattle.net.specs.Refusals.{Tried};
 ghost use Rattle.team.specs.Classes.{ClassedBy};
 ghost use Rattle.crews.specs.Crews.{nobody};
-ghost use Rattle.crews.specs.Calls.{unknown};
-ghost use Rattle.crews.specs.Shows.{Shows, Steps, ReadyOr, table_on, with_table, done_or, tokens_or};
+ghost use Rattle.crews.specs.Shows.{Shows, Steps, KnownOr, ReadyOr, LaidOut, table_on, with_table, answer_of};
 ghost use Rattle.crews.specs.declared.call.Call.TheVariants.{Put, Take, Fire, Count};
+ghost use Rattle.crews.specs.declared.call.Answer.TheVariants.{Done, Tokens};
 
 use crate::crew::Crew;
+use crate::crewed::Crewed;
+use crate::side::Side;
 use classing::{ClassTable, Partition};
 use net::{Fault, Net, Refusal};
 
@@ -35,18 +35,17 @@ impl<N: Net> Bench<N> {
 
     // How many tokens the crew on a side has on a place.
     pub fn count(&self, side: usize, place: usize) -> Result<u16, Fault>
-        ensures { Steps (N.Net.meaning self.now.net) self.now (Count side place) (tokens_or result) self.now }
+        ensures { Steps (N.Net.meaning self.now.net) self.now (Count side place) (answer_of Tokens result) self.now }
     {
-        self.knows_place(side, place)?;
+        let side = known(self.net.places(), side, place)?;
         Ok(self.crew(side).at(place))
     }
 
     // Puts tokens of a side on a place.
     pub fn put(&mut self, side: usize, place: usize, count: usize) -> Result<(), Fault>
-        ensures same { self.new.net ≡ self.old.net }
-        ensures steps { Steps (N.Net.meaning self.old.net) self.old (Put side place count) (done_or result) self.new }
+        ensures { Steps (N.Net.meaning self.old.net) self.old (Put side place count) (answer_of (λ _. Done) result) self.new }
     {
-        self.knows_place(side, place)?;
+        let side = known(self.net.places(), side, place)?;
         let mut crew = self.crew(side);
         if count > crew.room() {
             return Err(Fault::plain(Refusal::TooManyTokens));
@@ -58,10 +57,9 @@ impl<N: Net> Bench<N> {
 
     // Takes tokens of a side from a place.
     pub fn take(&mut self, side: usize, place: usize, count: usize) -> Result<(), Fault>
-        ensures same { self.new.net ≡ self.old.net }
-        ensures steps { Steps (N.Net.meaning self.old.net) self.old (Take side place count) (done_or result) self.new }
+        ensures { Steps (N.Net.meaning self.old.net) self.old (Take side place count) (answer_of (λ _. Done) result) self.new }
     {
-        self.knows_place(side, place)?;
+        let side = known(self.net.places(), side, place)?;
         let mut crew = self.crew(side);
         if count > usize::from(crew.at(place)) {
             return Err(Fault::plain(Refusal::TooFewTokens));
@@ -73,10 +71,10 @@ impl<N: Net> Bench<N> {
 
     // Fires a transition on a side: a token leaves the transition's place, and the tokens that it puts down come.
     pub fn fire(&mut self, side: usize, transition: usize) -> Result<(), Fault>
-        ensures same { self.new.net ≡ self.old.net }
-        ensures steps { Steps (N.Net.meaning self.old.net) self.old (Fire side transition) (done_or result) self.new }
+        ensures { Steps (N.Net.meaning self.old.net) self.old (Fire side transition) (answer_of (λ _. Done) result) self.new }
     {
-        let mut crew = self.ready(side, transition)?;
+        let side = self.ready(side, transition)?;
+        let mut crew = self.crew(side);
         if usize::from(self.net.total(transition)) > crew.room() + 1 {
             return Err(Fault::plain(Refusal::TooManyTokens));
         }
@@ -85,16 +83,15 @@ impl<N: Net> Bench<N> {
         Ok(())
     }
 
-    // The crew on a side, with a token on the place of a transition.
-    pub(crate) fn ready(&self, side: usize, transition: usize) -> Result<Crew, Fault>
+    // The side of that number, with a token on the place of a transition.
+    pub(crate) fn ready(&self, side: usize, transition: usize) -> Result<Side, Fault>
         ensures { ReadyOr (N.Net.meaning self.now.net) self.now side transition result }
     {
-        self.knows_transition(side, transition)?;
-        let crew = self.crew(side);
-        if crew.at(self.net.place(transition)) < 1 {
+        let side = known(self.net.transitions(), side, transition)?;
+        if self.crew(side).at(self.net.place(transition)) < 1 {
             return Err(Fault::plain(Refusal::TooFewTokens));
         }
-        Ok(crew)
+        Ok(side)
     }
 
     // The class of each place.
@@ -104,48 +101,47 @@ impl<N: Net> Bench<N> {
         Partition::of(&self.net).table
     }
 
-    // Refuses a side or a place that there is not.
-    fn knows_place(&self, side: usize, place: usize) -> Result<(), Fault>
-        ensures { Tried (unknown (N.Net.meaning self.now.net).places side place) result }
+    // The two crews, on the net's places and by their classes.
+    pub(crate) fn crewed<'a>(&'a self, table: &'a ClassTable) -> Crewed<'a>
+        requires { ClassedBy (N.Net.meaning self.now.net) table.now.classes }
+        ensures { LaidOut (N.Net.meaning self.now.net) self.now result }
     {
-        known(self.net.places(), side, place)
-    }
-
-    // Refuses a side or a transition that there is not.
-    fn knows_transition(&self, side: usize, transition: usize) -> Result<(), Fault>
-        ensures { Tried (unknown (count_of (N.Net.meaning self.now.net)) side transition) result }
-    {
-        known(self.net.transitions(), side, transition)
+        let places = self.net.places();
+        Crewed {
+            classes: &table.classes[..places],
+            left: &self.left.counts[..places],
+            right: &self.right.counts[..places],
+        }
     }
 
     // The table of the crew on a side.
-    pub(crate) fn crew(&self, side: usize) -> Crew
+    pub(crate) fn crew(&self, side: Side) -> Crew
         ensures { result ≡ table_on self.now side }
     {
-        if side == 0 { self.left } else { self.right }
+        match side {
+            Side::Left => self.left,
+            Side::Right => self.right,
+        }
     }
 
     // Puts another table in the place of a side's.
-    pub(crate) fn replace(&mut self, side: usize, crew: Crew)
+    pub(crate) fn replace(&mut self, side: Side, crew: Crew)
         ensures { self.new ≡ with_table self.old side crew }
     {
-        if side == 0 {
-            self.left = crew;
-        } else {
-            self.right = crew;
+        match side {
+            Side::Left => self.left = crew,
+            Side::Right => self.right = crew,
         }
     }
 }
 
-// Refuses a side above 1, and then a number that is not below the count.
-fn known(count: usize, side: usize, number: usize) -> Result<(), Fault>
-    ensures { Tried (unknown count side number) result }
+// The side of that number. Refuses a side that there is not, and then another number that is not below the count.
+fn known(count: usize, side: usize, number: usize) -> Result<Side, Fault>
+    ensures { KnownOr count side number result }
 {
-    if side > 1 {
-        return Err(Fault::plain(Refusal::UnknownSide));
-    }
+    let side = Side::try_from(side)?;
     if number >= count {
         return Err(Fault::plain(Refusal::OutOfRange));
     }
-    Ok(())
+    Ok(side)
 }

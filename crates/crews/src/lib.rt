@@ -6,11 +6,14 @@ mod call;
 mod compare;
 mod counting;
 mod crew;
+mod crewed;
 mod follow;
 mod pairing;
 mod runs;
 mod search;
+mod side;
 mod swap;
+mod texts;
 
 pub use bench::Bench;
 pub use call::{Answer, Call};

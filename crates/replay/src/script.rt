@@ -1,78 +1,74 @@
 // Reading a script: one call a line.
+use crate::stop::Stop;
 use crews::{Call, MOST_SWAPS};
-use std::str::SplitWhitespace;
+use std::io::Read;
 
-// What a line of a script says.
-#[derive(Clone, Copy)]
-pub(crate) enum Line {
-    // blank, or a remark that begins with #
-    Nothing,
-    Makes(Call),
-    NotACall,
+// A line of a script that is no call.
+#[derive(Clone, Copy, Debug)]
+struct NotACall;
+
+// Adds the calls of the script on standard input. Standard error tells each line that is no call.
+pub(crate) fn add_script(rt: &HostRuntime, calls: &mut Vec<Call>) -> Result<(), Stop> {
+    let heap = rt.alloc();
+    let mut bytes = Vec::new(heap);
+    rt.stdin().read_to_end(&mut bytes)?;
+    let text = String::from_utf8_lossy(heap, bytes.as_slice())?;
+    let mut outcome = Ok(());
+    for (i, line) in text.as_str().lines().enumerate() {
+        let words: Vec<&str> = line.split_whitespace().collect(heap)?;
+        match read_line(words.as_slice()) {
+            Ok(call) => calls.extend(call)?,
+            Err(NotACall) => {
+                let n = i.saturating_add(1);
+                eprintln!(rt; "line {n}: not a call: {line}")?;
+                outcome = Err(Stop::Told);
+            }
+        }
+    }
+    outcome
 }
 
-pub(crate) fn read_line(line: &str) -> Line {
-    let mut words = line.split_whitespace();
-    let Some(name) = words.next() else {
-        return Line::Nothing;
-    };
-    if name.starts_with('#') {
-        return Line::Nothing;
-    }
-    match read_call(name, &mut words) {
-        Some(call) => Line::Makes(call),
-        None => Line::NotACall,
+// The call that the words of a line make, or none where it is blank, or a remark that begins with #.
+fn read_line(words: &[&str]) -> Result<Option<Call>, NotACall> {
+    match *words {
+        [] => Ok(None),
+        [first, ..] if first.starts_with('#') => Ok(None),
+        _ => read_call(words).map(Some).ok_or(NotACall),
     }
 }
 
 // A call by its name, with its numbers in the words after it and nothing more.
-fn read_call(name: &str, words: &mut SplitWhitespace) -> Option<Call> {
-    let call = match name {
-        "put" => Call::Put {
-            side: next_number(words)?,
-            place: next_number(words)?,
-            count: next_number(words)?,
+fn read_call(words: &[&str]) -> Option<Call> {
+    let call = match *words {
+        ["put", side, place, count] => Call::Put {
+            side: number(side)?,
+            place: number(place)?,
+            count: number(count)?,
         },
-        "take" => Call::Take {
-            side: next_number(words)?,
-            place: next_number(words)?,
-            count: next_number(words)?,
+        ["take", side, place, count] => Call::Take {
+            side: number(side)?,
+            place: number(place)?,
+            count: number(count)?,
         },
-        "fire" => Call::Fire {
-            side: next_number(words)?,
-            transition: next_number(words)?,
+        ["fire", side, transition] => Call::Fire {
+            side: number(side)?,
+            transition: number(transition)?,
         },
-        "follow" => Call::Follow {
-            side: next_number(words)?,
-            transition: next_number(words)?,
+        ["follow", side, transition] => Call::Follow {
+            side: number(side)?,
+            transition: number(transition)?,
         },
-        "compare" => return read_compare(words),
-        "count" => Call::Count {
-            side: next_number(words)?,
-            place: next_number(words)?,
+        ["count", side, place] => Call::Count {
+            side: number(side)?,
+            place: number(place)?,
+        },
+        ["compare"] => Call::Compare { room: MOST_SWAPS },
+        ["compare", room] => Call::Compare {
+            room: number(room)?,
         },
         _ => return None,
     };
-    match words.next() {
-        None => Some(call),
-        Some(_) => None,
-    }
-}
-
-// A comparison, with the room of its list if one is named.
-fn read_compare(words: &mut SplitWhitespace) -> Option<Call> {
-    let Some(word) = words.next() else {
-        return Some(Call::Compare { room: MOST_SWAPS });
-    };
-    let room = number(word)?;
-    match words.next() {
-        None => Some(Call::Compare { room }),
-        Some(_) => None,
-    }
-}
-
-fn next_number(words: &mut SplitWhitespace) -> Option<usize> {
-    number(words.next()?)
+    Some(call)
 }
 
 // The number that a word of decimal digits writes, up to 2^64 - 1.
@@ -80,5 +76,5 @@ pub(crate) fn number(word: &str) -> Option<usize> {
     if word.starts_with('+') {
         return None;
     }
-    word.parse::<usize>().ok()
+    word.parse().ok()
 }

@@ -1,17 +1,19 @@
-use Rattle.std.proofs.Common.{[], refl}
+use Rattle.std.proofs.Common.{[], refl, arith}
 use Rattle.std.proofs.lemmas.Result.{err_from_is_err_and}
 use Rattle.crews.specs.declared.call.Call.TheVariants.{Count}
 use Rattle.crews.proofs.Steps.{unknown_steps, count_steps}
 use Rattle.crews.proofs.bench.Bench.count.Goals as goal
 
-pub returns-in_err-knows_place : goal.returns-in_err-knows_place
-returns-in_err-knows_place g c =
+pub returns-in_err-side : goal.returns-in_err-side
+returns-in_err-side g c =
     let b = c.args.self.now in
     let m = g.N.Net.meaning b.net in
     let p = err_from_is_err_and c.from_residual.result c.from_residual.ensures.1 in
-    rw (p.1, p.2) (unknown_steps m b (Count c.args.side c.args.place) m.places c.args.side c.args.place (λ x. []) _ (λ x. refl) c.in_err-knows_place.ensures)
+    rw (p.1, p.2)
+    (unknown_steps m b (Count c.args.side c.args.place) _ m.places c.args.side c.args.place (λ x. []) _ c.places.ensures (λ x. refl) c.in_err-side.ensures)
 
 pub returns : goal.returns
 returns g c =
     let b = c.args.self.now in
-    count_steps (g.N.Net.meaning b.net) b c.args.side c.crew.result c.crew.ensures c.args.place c.at.result c.at.ensures c.in_ok-knows_place.ensures
+    count_steps (g.N.Net.meaning b.net) b c.args.side c.in_ok-side.side c.crew.result c.in_ok-side.ensures.number c.crew.ensures c.args.place c.at.result c.at.ensures
+    (omega (arith, c.places.ensures, c.in_ok-side.ensures.below))

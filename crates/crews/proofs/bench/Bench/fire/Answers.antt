@@ -4,55 +4,48 @@ use Rattle.net.specs.Markings.{fired}
 use Rattle.crews.specs.Crews.{on_side}
 use Rattle.crews.specs.Calls.{crowded}
 use Rattle.crews.specs.declared.call.Call.TheVariants.{Fire}
-use Rattle.crews.proofs.Steps.{not_ready_steps, fire_crowded, fire_steps, sum_ready}
-use Rattle.crews.proofs.Tables.{with_table_net}
+use Rattle.crews.proofs.Steps.{not_ready_steps, token, fire_crowded, fire_steps, sum_ready}
 use Rattle.crews.proofs.bench.Bench.fire.Goals as goal
 
-pub returns-in_err-crew : goal.returns-in_err-crew
-returns-in_err-crew g c =
+pub returns-in_err-side : goal.returns-in_err-side
+returns-in_err-side g c =
     let b = c.args.self.now in
     let m = g.N.Net.meaning b.net in
     let s = c.args.side in
     let t = c.args.transition in
     let p = err_from_is_err_and c.from_residual.result c.from_residual.ensures.1 in
-    rw (p.1, p.2) (record { same = refl; steps = not_ready_steps m b (Fire s t) s t (λ x. crowded (fired m t (on_side x s))) _ (λ x. refl) c.in_err-crew.ensures })
+    rw (p.1, p.2) (not_ready_steps m b (Fire s t) s t (λ x. crowded (fired m t (on_side x s))) _ (λ x. refl) c.in_err-side.ensures)
 
 pub returns-then-from-room : goal.returns-then-from-room
 returns-then-from-room g c =
     let b = c.args.self.now in
     let m = g.N.Net.meaning b.net in
     let law = g.N.Net.lawful b.net in
-    let y = c.in_ok-crew.crew in
-    let ready = c.in_ok-crew.ensures in
+    let y = c.crew-crew.result in
+    let ready = c.in_ok-side.ensures in
     let whole : length y.counts ≡ 128 = search rules in
-    let all = sum_ready m b c.args.side c.args.transition y law ready whole in
-    record {
-      same = refl;
-      steps = fire_crowded m b c.args.side c.args.transition y law ready c.plain.result c.plain.ensures
-          (omega (arith, all, c.if-from-room.true, c.room.ensures, c.total.ensures, c.from.ensures));
-    }
+    let all = sum_ready m b c.args.side c.args.transition c.in_ok-side.side y law ready c.crew-crew.ensures whole in
+    fire_crowded m b c.args.side c.args.transition c.in_ok-side.side y law ready c.crew-crew.ensures c.plain.result c.plain.ensures
+    (omega (arith, all, c.if-from-room.true, c.room.ensures, c.total.ensures, c.from.ensures))
 
 pub fire-requires : goal.fire-requires
 fire-requires g c =
     let b = c.args.self.now in
     let m = g.N.Net.meaning b.net in
-    let y = c.in_ok-crew.crew in
-    let ready = c.in_ok-crew.ensures in
+    let y = c.crew-crew.result in
+    let ready = c.in_ok-side.ensures in
     let whole : length y.counts ≡ 128 = search rules in
-    let all = sum_ready m b c.args.side c.args.transition y (g.N.Net.lawful b.net) ready whole in
-    record { known = ready.known; there = ready.token; fits = omega (arith, all, c.if-from-room.false, c.room.ensures, c.total.ensures, c.from.ensures) }
+    let all = sum_ready m b c.args.side c.args.transition c.in_ok-side.side y (g.N.Net.lawful b.net) ready c.crew-crew.ensures whole in
+    record { known = ready.known; there = token m b c.args.side c.args.transition c.in_ok-side.side y (g.N.Net.lawful b.net) ready c.crew-crew.ensures; fits = omega (arith, all, c.if-from-room.false, c.room.ensures, c.total.ensures, c.from.ensures) }
 
 pub returns : goal.returns
 returns g c =
     let b = c.args.self.now in
     let m = g.N.Net.meaning b.net in
     let law = g.N.Net.lawful b.net in
-    let y = c.in_ok-crew.crew in
-    let ready = c.in_ok-crew.ensures in
+    let y = c.crew-crew.result in
+    let ready = c.in_ok-side.ensures in
     let whole : length y.counts ≡ 128 = search rules in
-    let all = sum_ready m b c.args.side c.args.transition y law ready whole in
-    record {
-      same = with_table_net b c.replace.new.self c.args.side c.fire.new.self c.replace.ensures;
-      steps = fire_steps m b c.args.side c.args.transition y law ready c.replace.new.self c.fire.new.self c.replace.ensures c.fire.ensures
-          (omega (arith, all, c.if-from-room.false, c.room.ensures, c.total.ensures, c.from.ensures));
-    }
+    let all = sum_ready m b c.args.side c.args.transition c.in_ok-side.side y law ready c.crew-crew.ensures whole in
+    fire_steps m b c.args.side c.args.transition c.in_ok-side.side y law ready c.crew-crew.ensures c.replace.new.self c.fire.new.self c.replace.ensures c.fire.ensures
+    (omega (arith, all, c.if-from-room.false, c.room.ensures, c.total.ensures, c.from.ensures))
