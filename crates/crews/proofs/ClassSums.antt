@@ -108,7 +108,3 @@ counting_all p cs xs left_cs left_xs sums even end g c l = g.going.each c l ∙ 
     all : (length left_cs ≡ 0) ⊎ (length left_xs ≡ 0) → p ≡ length cs
     all (inl e) = omega (arith, g.within, ap length g.classes, length-drop p cs)
     all (inr e) = omega (arith, g.within, even, ap length g.counts, length-drop p xs)
-
--- the count of a class at one place more
-pub in_class_more : (n : ℕ) (cs xs : List ℕ) (c : ℕ) → c ≡ get_or cs n 0 → in_class (n + 1) cs xs c ≡ in_class n cs xs c + get_or xs n 0
-in_class_more n cs xs c e = omega (arith, in_class_here n cs xs, ap (in_class (n + 1) cs xs) e, ap (in_class n cs xs) e)

@@ -1,9 +1,9 @@
 -- What compare answers, from what its parts found.
-use Rattle.std.proofs.Common.{◌≡◌, ℕ, ◌*◌, ◌≤◌, min, List, ◌++◌, length, take, drop, None, Ok, Err, Result, sym, refl, ap, ◌∙◌, subst, inl, inr, append_assoc, arith}
+use Rattle.std.proofs.Common.{◌≡◌, ℕ, ◌*◌, ◌≤◌, min, List, ◌++◌, length, take, drop, None, Ok, Err, sym, refl, ap, ◌∙◌, subst, inl, inr, append_assoc, arith}
 use Rattle.std.proofs.lemmas.List.{take_at}
 use Rattle.net.specs.Meaning.{Meaning}
 use Rattle.net.specs.Limits.{Lawful}
-use Rattle.net.specs.Refusals.{First}
+use Rattle.net.specs.Refusals.{First, Free}
 use Rattle.net.specs.declared.refusal.Fault.{Fault}
 use Rattle.crews.specs.Crews.{Crews}
 use Rattle.crews.specs.Calls.{cramped}
@@ -11,15 +11,14 @@ use Rattle.crews.specs.Counting.{places_of, DiffersAt, Found}
 use Rattle.crews.specs.Swaps.{swap_list}
 use Rattle.crews.specs.Pairs.{table_of}
 use Rattle.crews.specs.Tally.{Step, alike, apart, refused}
-use Rattle.crews.specs.Shows.{Shows, Steps, LaidOut, answer_of, verdict_answer}
+use Rattle.crews.specs.Shows.{Shows, Steps, LaidOut}
 use Rattle.crews.specs.Verdicts.{AlikeBy, ApartBy}
-use Rattle.crews.specs.Compares.{Written, Unwritten, Says, Compared}
+use Rattle.crews.specs.Compares.{Written, Unwritten, TurnedDown}
 use Rattle.crews.specs.declared.bench.Bench.{Bench}
 use Rattle.crews.specs.declared.crewed.Crewed.{Crewed}
 use Rattle.crews.specs.declared.swap.Swap.{Swap}
 use Rattle.crews.specs.declared.swap.Difference.{Difference}
-use Rattle.crews.specs.declared.swap.Verdict.{Verdict}
-use Rattle.crews.specs.declared.swap.Verdict.TheVariants.{Alike, Apart}
+use Rattle.crews.specs.declared.call.Answer.TheVariants.{Alike, Apart}
 use Rattle.crews.specs.declared.call.Call.TheVariants.{Compare}
 use Rattle.crews.proofs.LayingOut.{shown_is}
 use Rattle.crews.proofs.Judging.{judged_alike, judged_apart}
@@ -43,21 +42,31 @@ module _ {N : Type 0} (m : Meaning) (b : Bench N) (law : Lawful m) (x : Crewed) 
     now_is = written ∙ ap (λ (k : ℕ). swap_list (table_of x) k ++ drop used before) laid.places;
   }
 
--- a comparison into the first entries of a list of 256 is one into a list with that room
-pub said_steps : {N : Type 0} (m : Meaning) (b : Bench N) (room : ℕ) (r : Result Verdict Fault) (before after rest entries : List Swap) → m.places ≤ 128 → length before ≡ min room 256
-    → entries ≡ after ++ rest → Compared m b before after r → Steps m b (Compare room) (answer_of (verdict_answer entries) r) b
-said_steps m b room r before after rest entries few e ee says = record { same = refl; leads = λ c shows. (c, shows, by_answer c r (says c shows)) }
-  where
-    front : (c : Crews) (used : ℕ) (s : Written m c before after used) → take used entries ≡ s.list
-    front c used s =
-        ap (take used) ee ∙ ap (λ xs. take used (xs ++ rest)) s.now_is ∙ ap (take used) (append_assoc s.list (drop used before) rest) ∙ take_at s.list (drop used before ++ rest) used (sym s.count)
+-- ## A comparison into the first entries of a list of 256 is one into a list with that room
 
-    as_room : (f : Fault) → First (cramped m (length before)) f → First (cramped m room) f
-    as_room f (inl (short, same)) = inl (omega (arith, short, e, few), same)
-    as_room f (inr (no_short, none)) = absurd none
+module _ {N : Type 0} (m : Meaning) (b : Bench N) (room : ℕ) (before after : List Swap) where
+  free_room : length before ≡ min room 256 → m.places ≤ 128 → Free (cramped m (length before)) → Free (cramped m room)
+  free_room e few free = ((λ short. free.0 (omega (arith, short, e, few))), tt)
 
-    by_answer : (c : Crews) (r : Result Verdict Fault) → Says m c before after r → Step m c (Compare room) (answer_of (verdict_answer entries) r) c
-    by_answer c (Ok (Alike used)) s =
-        alike room (record { entries = entries; used = used }) ((λ short. s.free.0 (omega (arith, short, e, few))), tt) (subst (AlikeBy m c) (sym (front c used s)) s.alike)
-    by_answer c (Ok (Apart d)) s = apart room d ((λ short. s.free.0 (omega (arith, short, e, few))), tt) s.apart
-    by_answer c (Err f) s = refused f (as_room f s.first)
+  pub compared_alike : (used : ℕ) (rest entries : List Swap) → ((c : Crews) → Shows m b c → Written m c before after used) → entries ≡ after ++ rest → length before ≡ min room 256 → m.places ≤ 128
+      → Steps m b (Compare room) (Ok (Alike (record { entries = entries; used = used }))) b
+  compared_alike used rest entries written ee e few = record { same = refl; leads = λ c shows. (c, shows, step c (written c shows)) }
+    where
+      step : (c : Crews) → Written m c before after used → Step m c (Compare room) (Ok (Alike (record { entries = entries; used = used }))) c
+      step c w =
+          let front : take used entries ≡ w.list =
+          ap (take used) ee ∙ ap (λ xs. take used (xs ++ rest)) w.now_is ∙ ap (take used) (append_assoc w.list (drop used before) rest) ∙ take_at w.list (drop used before ++ rest) used (sym w.count) in
+          alike room (record { entries = entries; used = used }) (free_room e few w.free) (subst (AlikeBy m c) (sym front) w.alike)
+
+  pub compared_apart : (d : Difference) → ((c : Crews) → Shows m b c → Unwritten m c before after d) → length before ≡ min room 256 → m.places ≤ 128 → Steps m b (Compare room) (Ok (Apart d)) b
+  compared_apart d unwritten e few = record {
+    same = refl;
+    leads = λ c shows. (c, shows, apart room d (free_room e few (unwritten c shows).free) (unwritten c shows).apart);
+  }
+
+  pub compared_refused : (f : Fault) → ((c : Crews) → Shows m b c → TurnedDown m before after f) → length before ≡ min room 256 → m.places ≤ 128 → Steps m b (Compare room) (Err f) b
+  compared_refused f refusal e few = record { same = refl; leads = λ c shows. (c, shows, refused f (as_room (refusal c shows).first)) }
+    where
+      as_room : First (cramped m (length before)) f → First (cramped m room) f
+      as_room (inl (short, same)) = inl (omega (arith, short, e, few), same)
+      as_room (inr (no_short, none)) = absurd none

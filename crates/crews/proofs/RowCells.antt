@@ -1,5 +1,5 @@
 -- One row of the greedy table, cell by cell.
-use Rattle.std.proofs.Common.{◌≡◌, ℕ, ◌+◌, ◌-◌, ◌*◌, ◌<◌, ◌≤◌, min, cond, List, [], ◌∷◌, ◌++◌, length, get_or, take, drop, set, sym, refl, ap, ◌∙◌, subst, ap₂, append_assoc, append-nil, arith, length-append, below_more}
+use Rattle.std.proofs.Common.{◌≡◌, ℕ, ◌+◌, ◌-◌, ◌*◌, ◌<◌, ◌≤◌, min, cond, List, [], ◌∷◌, ◌++◌, length, get_or, take, drop, set, sym, refl, ap, ◌∙◌, ap₂, append_assoc, append-nil, arith, length-append, below_more}
 use Rattle.std.proofs.lemmas.List.{get_or-set_same, get_or-set_other, take-append-drop, take_at, drop_at, drop-drop, length-take-le, length-replicate}
 use Rattle.team.specs.Below.{tally}
 use Rattle.team.specs.Tables.{same}
@@ -32,10 +32,6 @@ row_none n T x p start before taken columns = record {
   written = sym (ap (λ xs. xs ++ drop start before) (append-nil (take start before)) ∙ take-append-drop start before);
 }
 
-pub row_all : (n : ℕ) (T : Cells) (x p q start : ℕ) (before : List Swap) (taken : List ℕ) (have : ℕ) (after : List Swap) (used : ℕ) → q ≡ n
-    → RowGoing n T x p q start before taken have after used → RowWritten n T p start before taken after used
-row_all n T x p q start before taken have after used e g = subst (λ k. RowWritten k T p start before taken after used) e (record { columns = g.done; count = g.count; written = g.written })
-
 module _ (w : Crewed) (p q start : ℕ) (before : List Swap) (taken : List ℕ) (have : ℕ) (after : List Swap) (used : ℕ) (l : p < places_of w) (k : q < places_of w)
     (g : RowGoing (places_of w) (table_of w) (get_or w.left.now p 0) p q start before taken have after used) where
   -- the columns before hold no more than there is
@@ -51,12 +47,6 @@ module _ (w : Crewed) (p q start : ℕ) (before : List Swap) (taken : List ℕ) 
 
     cell_small : (table_of w p q ≤ get_or w.left.now p 0 - tally q (table_of w p)) × (table_of w p q ≤ get_or w.right.now q 0 - tally p (λ i. table_of w i q))
     cell_small = cell_le (places_of w) (same w.classes.now) w.left.now w.right.now (table_of w) (greedy_is (places_of w) (same w.classes.now) w.left.now w.right.now) p q l k
-
-    pub row_enough : c ≤ have
-    row_enough = omega (arith, cell_is, cell_small.0, g.in_row)
-
-    pub column_enough : get_or taken q 0 + c ≤ get_or w.right.now q 0
-    column_enough = omega (arith, cell_is, cell_small.1, g.later q (omega arith) k, column_small)
 
     module _ (begun : start ≡ length (swaps (table_of w) (places_of w) p)) (room : 2 * places_of w ≤ length before) where
       pub entry_room : 0 < c → used < length before

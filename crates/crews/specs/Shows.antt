@@ -20,10 +20,6 @@ use Rattle.crews.specs.declared.side.Side.{Side}
 use Rattle.crews.specs.declared.side.Side.TheVariants.{Left, Right}
 use Rattle.crews.specs.declared.call.Call.{Call}
 use Rattle.crews.specs.declared.call.Answer.{Answer}
-use Rattle.crews.specs.declared.call.Answer.TheVariants.{Alike, Apart}
-use Rattle.crews.specs.declared.swap.Swap.{Swap}
-use Rattle.crews.specs.declared.swap.Verdict.{Verdict}
-use Rattle.crews.specs.declared.swap.Verdict.TheVariants.{Alike as VerdictAlike, Apart as VerdictApart}
 
 -- A table holds a crew of n places: the crew's counts, and 0 beyond.
 pub record Holds (n : ℕ) (table crew : List ℕ) : Type 0 where
@@ -78,11 +74,6 @@ ReadyOr m b s t (Err f) = (c : Crews) → Shows m b c → First (not_ready m c s
 -- what a call answers, from what the bench's method for it answers
 abbrev pub answer_of : {T : Type 0} → (T → Answer) → Result T Fault → Result Answer Fault
 answer_of f r = result_map_both f (λ e. e) r
-
--- what a verdict answers, with the list that the comparison wrote into
-abbrev pub verdict_answer : List Swap → Verdict → Answer
-verdict_answer entries (VerdictAlike used) = Alike (record { entries = entries; used = used })
-verdict_answer entries (VerdictApart d) = Apart d
 
 -- whatever events led to the crews that b holds, with this one they lead to those that b' holds
 abbrev pub Extends : {N : Type 0} → Meaning → Bench N → Call → Result Answer Fault → Bench N → Type 0

@@ -7,6 +7,7 @@ ghost use Rattle.net.specs.Markings.{more, fewer, plus, fired};
 use net::{MOST_PLACES, MOST_TOKENS, Net};
 
 // The tokens of a crew on each place, and in all. No crew holds more than 4,096.
+// Kept: by a rule of the project a table's counts are copied, changed and written back whole.
 #[derive(Clone, Copy)]
 pub(crate) struct Crew {
     pub(crate) counts: [u16; MOST_PLACES],
@@ -85,6 +86,7 @@ impl Crew {
         let total = net.total(transition);
         let mut counts = self.counts;
         let mut left = total;
+        // Kept: the counts are written by index, since a contract knows no element of a list that `iter_mut` went through.
         for place in 0..MOST_PLACES {
             if left == 0 {
                 break;

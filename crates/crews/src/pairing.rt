@@ -41,6 +41,7 @@ impl Crewed<'_> {
     {
         let mut have = self.left[p];
         let mut used = start;
+        // Kept: both lists are written by index, since a contract knows no element of a list that `iter_mut` went through.
         for q in 0..self.classes.len() {
             let k = cell(
                 self.classes[p] == self.classes[q],

@@ -1,40 +1,21 @@
 // Calls as values: one performed on a bench, or a list of them from an empty bench on.
 ghost use Rattle.std.specs.Prelude.{◌≡◌};
 ghost use Rattle.crews.specs.Calls.{TriedInOrder};
-ghost use Rattle.crews.specs.Shows.{Steps, Extends, ReplayedOr, answer_of, verdict_answer};
+ghost use Rattle.crews.specs.Shows.{Steps, Extends, ReplayedOr};
 ghost use Rattle.crews.specs.declared.call.Call.TheVariants.{Compare};
 
 use crate::{Answer, Bench, Call, MOST_SWAPS, Swap, SwapList, Verdict};
 use net::{Fault, Net, Refusal};
 
-// What a verdict answers, with the list that the comparison wrote into.
-fn said(verdict: Verdict, entries: [Swap; MOST_SWAPS]) -> Answer
-    ensures { result ≡ verdict_answer entries verdict }
-{
-    match verdict {
-        Verdict::Alike { used } => Answer::Alike(SwapList { entries, used }),
-        Verdict::Apart(d) => Answer::Apart(d),
-    }
-}
-
 // Compares into the front of a list, with as much of the room as it has.
-fn compare_in<N: Net>(
-    bench: &Bench<N>,
-    room: usize,
-    entries: &mut [Swap; MOST_SWAPS],
-) -> Result<Verdict, Fault>
-    ensures { Steps (N.Net.meaning bench.now.net) bench.now (Compare room) (answer_of (verdict_answer entries.new) result) bench.now }
-{
-    let within = room.min(MOST_SWAPS);
-    bench.compare(&mut entries[..within])
-}
-
 fn compared<N: Net>(bench: &Bench<N>, room: usize) -> Result<Answer, Fault>
     ensures { Steps (N.Net.meaning bench.now.net) bench.now (Compare room) result bench.now }
 {
     let mut entries = [Swap::default(); MOST_SWAPS];
-    let verdict = compare_in(bench, room, &mut entries)?;
-    Ok(said(verdict, entries))
+    match bench.compare(&mut entries[..room.min(MOST_SWAPS)])? {
+        Verdict::Alike { used } => Ok(Answer::Alike(SwapList { entries, used })),
+        Verdict::Apart(d) => Ok(Answer::Apart(d)),
+    }
 }
 
 // Makes a call by the bench's method for it.
@@ -73,8 +54,9 @@ pub fn replay<N: Net + Drop>(
         return Err(Fault::plain(Refusal::ShortList));
     }
     let mut bench = Bench::new(net);
-    for i in 0..calls.len() {
-        answers[i] = perform(&mut bench, calls[i]);
+    // Kept: the answers are written by index, since a contract knows no element of a list that `iter_mut` went through.
+    for (i, call) in calls.iter().enumerate() {
+        answers[i] = perform(&mut bench, *call);
     }
     Ok(bench)
 }

@@ -18,6 +18,7 @@ pub(crate) fn answering<N: Net>(
     requires some { (u : ℕ) × FitsBy (N.Net.meaning net.now) table.now.classes crew.now t u }
     ensures { FitsBy (N.Net.meaning net.now) table.now.classes crew.now t result }
 {
+    // Kept: by a rule of the project this search is two nested loops, left by a label with the transition's number.
     'search: {
         'next: for u in 0..net.transitions() {
             if !may_answer(net, table, crew, t, u) {

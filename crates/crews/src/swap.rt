@@ -15,6 +15,7 @@ pub struct Swap {
 }
 
 // A swap list by value: its entries are the first `used`.
+// Kept: an answer is Copy and takes no memory, and neither `ArrayVec` nor `Vec` is both.
 #[derive(Clone, Copy, PartialEq, Eq, Debug)]
 pub struct SwapList {
     pub entries: [Swap; MOST_SWAPS],
