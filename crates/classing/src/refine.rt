@@ -69,6 +69,7 @@ impl Stage<'_> {
         requires done { (q : ℕ) → q < p → LowestStay self.now.snapshot.now self.now.profiles.now self.now.table.now.classes q (slice_index next.now.classes q) }
         ensures { LowestStay self.now.snapshot.now self.now.profiles.now self.now.table.now.classes p result }
     {
+        // Kept: `find` in place of this loop was proved, and chains of places took a sixth longer to class, past the time of the older form.
         for q in usize::from(self.table.classes[p])..p {
             if usize::from(next.classes[q]) == q && self.keeps(q, p) {
                 return q;
