@@ -26,6 +26,7 @@ pub struct Line {
     pub kind: u8,
     pub label: u8,
     pub total: u8,
+    // Kept: how many pairs are used, as a number beside them: it may be one that no line can use, and that must be there to be refused.
     pub used: u8,
     pub pairs: [Pair; MOST_PAIRS],
 }

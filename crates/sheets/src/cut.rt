@@ -1,7 +1,6 @@
 // Cutting blocks: a transition that some places of its block answer, and others do not, parts that block in two.
 ghost use Rattle.std.specs.Prelude.{◌≡◌, ℕ, ◌+◌, ◌<◌, ◌≤◌, length, slice_index};
 ghost use Rattle.net.specs.Limits.{most_places};
-ghost use Rattle.classing.specs.Snapshots.{Sound};
 ghost use Rattle.formulas.specs.Lines.{most_lines};
 
 use crate::blocks::Blocks;
@@ -39,9 +38,10 @@ impl Cut<'_> {
 
     // The blocks once the cut is made: the places of its block that answer go to the third of its lines, the others to the fourth.
     pub(crate) fn part(&self) -> Blocks
-        requires { Sound self.now.snapshot.now }
-        ensures within { (q : ℕ) → q < self.now.snapshot.now.places → MovedTo self.now q (slice_index result.lines q) }
-        ensures beyond { (q : ℕ) → self.now.snapshot.now.places ≤ q → q < most_places → slice_index result.lines q ≡ slice_index self.now.blocks.now.lines q }
+        ensures within { (q : ℕ) → q < self.now.snapshot.now.places
+            → MovedTo self.now q (slice_index result.lines q) }
+        ensures beyond { (q : ℕ) → self.now.snapshot.now.places ≤ q → q < most_places
+            → slice_index result.lines q ≡ slice_index self.now.blocks.now.lines q }
     {
         Blocks {
             lines: array::from_fn(|q| self.line_of(q)),
@@ -50,8 +50,7 @@ impl Cut<'_> {
 
     // The line of the block that place q is in once the cut is made.
     fn line_of(&self, q: usize) -> u16
-        requires sound { Sound self.now.snapshot.now }
-        requires known { q < most_places }
+        requires { q < most_places }
         ensures within { q < self.now.snapshot.now.places → MovedTo self.now q result }
         ensures beyond { self.now.snapshot.now.places ≤ q → result ≡ slice_index self.now.blocks.now.lines q }
     {

@@ -1,7 +1,5 @@
 // Whether the moves of a place do what a line says.
-ghost use Rattle.std.specs.Prelude.{◌≡◌, ◌↔◌, ◌<◌, IsTrue};
-ghost use Rattle.net.specs.Limits.{most_places};
-ghost use Rattle.classing.specs.Snapshots.{Sound};
+ghost use Rattle.std.specs.Prelude.{◌≡◌, ◌↔◌, IsTrue};
 ghost use Rattle.sheets.specs.Doing.{stands, tokens_where, targets_in, puts_like, MoveDoes, Answers};
 
 use crate::tells::Tells;
@@ -55,16 +53,10 @@ fn does<T: Tells>(truths: &T, line: &Line, this: &Move) -> bool
 
 // Whether some move of the place q does what the line says.
 pub(crate) fn answers<T: Tells>(snapshot: &Snapshot, truths: &T, line: &Line, q: usize) -> bool
-    requires sound { Sound snapshot.now }
-    requires known { q < most_places }
     ensures { IsTrue result ↔ (Answers snapshot.now (T.Tells.tells truths.now) line.now q) }
 {
-    let mut u = usize::from(snapshot.firsts[q]);
-    while u < snapshot.count {
-        if does(truths, line, &snapshot.moves[u]) {
-            return true;
-        }
-        u = usize::from(snapshot.nexts[u]);
-    }
-    false
+    snapshot
+        .moves_of(q)
+        .iter()
+        .any(|&u| does(truths, line, &snapshot.moves[usize::from(u)]))
 }

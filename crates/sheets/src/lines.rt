@@ -1,6 +1,6 @@
 // The lines of a sheet that are not modal.
 ghost use Rattle.std.specs.Prelude.{◌≡◌};
-ghost use Rattle.sheets.specs.Cuts.{everywhere as everywhere_line, negated, joint, naming, plain_line};
+ghost use Rattle.sheets.specs.Lines.{everywhere as everywhere_line, negated, joint, naming, plain_line};
 
 use formulas::{Kind, Line, Pair};
 

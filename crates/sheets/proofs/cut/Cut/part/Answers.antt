@@ -7,7 +7,7 @@ use Rattle.sheets.proofs.cut.Cut.part.Goals as goal
 pub returns-clause-within : goal.returns-clause-within
 returns-clause-within c = λ q w.
     made_each (λ k y. k < c.args.self.now.snapshot.now.places → MovedTo c.args.self.now k y) c.from_fn.ensures.items
-    (λ k y c r. search rules) q 0 (omega (arith, c.requires.few_places)) w
+    (λ k y c r. search rules) q 0 (omega (arith, c.args.self.now.snapshot.now.sound.few_places)) w
 
 pub returns-clause-beyond : goal.returns-clause-beyond
 returns-clause-beyond c = λ q w l.
