@@ -26,6 +26,7 @@ pub(crate) fn tokens_where<T: Tells>(truths: &T, line: u16, targets: &[u8; WIDTH
 }
 
 // How many targets there are.
+// Kept: a chain of its own beside that of `tokens_where`, since a shared one would take the test as a closure, and its contract would have to say what that gives.
 pub(crate) fn total_of(targets: &[u8; WIDTH]) -> u8
     ensures { result ≡ targets_in targets.now }
 {
