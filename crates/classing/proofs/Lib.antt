@@ -1,8 +1,12 @@
 pub mod Writes
 pub mod Targets
-pub mod Linking
-pub mod Walks
+pub mod Grouping
+pub mod Ordering
+pub mod Runs
+pub mod Mapped
 pub mod Profiles
+pub mod Equal
+pub mod Fronts
 pub mod Staying
 pub mod Turning
 pub mod Tokens

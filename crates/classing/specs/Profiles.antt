@@ -1,6 +1,7 @@
 -- The profile of a transition at a stage: its label, and the classes of its targets in rising order.
-use Rattle.std.specs.Prelude.{◌≡◌, ℕ, ◌<◌, cond, List, [], length, ◌==◌, nat_lt, slice_index, slice_index_or}
+use Rattle.std.specs.Prelude.{◌≡◌, ℕ, ◌<◌, Bool, ◌&&◌, cond, List, [], length, ◌==◌, nat_eq, nat_lt, slice_index, slice_index_or}
 use Rattle.std.specs.List.Sorted.{IsNonDecreasing}
+use lib.Pointwise.{pointwise}
 use Rattle.net.specs.Limits.{most_places, most_total}
 use Rattle.team.specs.Below.{tally}
 use Rattle.classing.specs.Targets.{no_target, times}
@@ -11,6 +12,10 @@ use Rattle.classing.specs.declared.profile.Profile.{Profile}
 
 abbrev pub no_profile : Profile
 no_profile = record { label = 0; classes = [] }
+
+-- whether two profiles are equal
+abbrev pub equal : Profile → Profile → Bool
+equal x y = (x.label == y.label) && pointwise nat_eq x.classes y.classes
 
 -- the class of a target, which is none where there is no target
 abbrev pub class_at : List ℕ → ℕ → ℕ
@@ -26,6 +31,6 @@ pub record ProfileOf (cs : List ℕ) (k : Move) (x : Profile) : Type 0 where
   pub rising : IsNonDecreasing x.classes
   pub counts : (v : ℕ) → times most_total x.classes v ≡ spread most_total cs k.targets v
 
--- each move of the snapshot has its profile by the table cs
+-- at k stands the profile, by the table cs, of the move that stands at k in the snapshot's order
 abbrev pub Described : Snapshot → List ℕ → List Profile → Type 0
-Described s cs xs = (t : ℕ) → t < s.count → ProfileOf cs (slice_index_or s.moves t no_move) (slice_index_or xs t no_profile)
+Described s cs xs = (k : ℕ) → k < s.count → ProfileOf cs (slice_index_or s.moves (slice_index s.order k) no_move) (slice_index_or xs k no_profile)

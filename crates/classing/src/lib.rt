@@ -5,6 +5,7 @@ ghost use Rattle.classing.specs.Answers.{ClassesAnswer, TokensIn};
 
 use net::{Fault, Net, Refusal};
 
+mod groups;
 mod profile;
 mod refine;
 mod snapshot;

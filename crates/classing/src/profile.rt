@@ -1,14 +1,13 @@
 // What a transition does to the classes of a stage.
-ghost use Rattle.std.specs.Prelude.{◌≡◌, Decides};
-ghost use Rattle.classing.specs.Snapshots.{Sound};
+ghost use Rattle.std.specs.Prelude.{◌≡◌};
 ghost use Rattle.classing.specs.Profiles.{class_at, ProfileOf, Described};
 
 use crate::snapshot::{Move, NO_TARGET, Snapshot, WIDTH};
 use crate::table::ClassTable;
-use net::{MOST_PLACES, MOST_TRANSITIONS};
+use net::MOST_TRANSITIONS;
 
 // The label of a transition and the classes of its targets in rising order: two transitions match exactly when these are equal.
-#[derive(Clone, Copy)]
+#[derive(Clone, Copy, PartialEq, Eq)]
 pub struct Profile {
     label: u8,
     classes: [u8; WIDTH],
@@ -20,47 +19,36 @@ impl Profile {
         label: 0,
         classes: [NO_TARGET; WIDTH],
     };
-
-    // Whether the two profiles are equal.
-    pub(crate) fn same(&self, other: &Profile) -> bool
-        ensures { Decides result (self.now ≡ other.now) }
-    {
-        self.label == other.label && self.classes == other.classes
-    }
 }
 
 // The class of a target, which is none where there is no target.
 fn class_at(table: &ClassTable, target: u8) -> u8
     ensures { result ≡ class_at table.now.classes target }
 {
-    if usize::from(target) < MOST_PLACES {
-        table.classes[usize::from(target)]
-    } else {
-        NO_TARGET
-    }
+    table.classes.get(usize::from(target)).copied().unwrap_or(NO_TARGET)
 }
 
-// Writes the profile of one move.
-fn describe(this: &Move, table: &ClassTable, profile: &mut Profile)
-    ensures { ProfileOf table.now.classes this.now profile.new }
+// The profile of one move.
+fn describe(this: &Move, table: &ClassTable) -> Profile
+    ensures { ProfileOf table.now.classes this.now result }
 {
-    profile.label = this.label;
-    for j in 0..WIDTH {
-        profile.classes[j] = class_at(table, this.targets[j]);
+    let mut classes = this.targets.map(|target| class_at(table, target));
+    classes.sort_unstable();
+    Profile {
+        label: this.label,
+        classes,
     }
-    profile.classes.sort_unstable();
 }
 
-// Writes the profile of each move.
+// Writes the profile of each move, in the snapshot's order.
 pub(crate) fn describe_all(
     snapshot: &Snapshot,
     table: &ClassTable,
     profiles: &mut [Profile; MOST_TRANSITIONS],
 )
-    requires { Sound snapshot.now }
     ensures { Described snapshot.now table.now.classes profiles.new }
 {
-    for t in 0..snapshot.count {
-        describe(&snapshot.moves[t], table, &mut profiles[t]);
+    for k in 0..snapshot.count {
+        profiles[k] = describe(&snapshot.moves[usize::from(snapshot.order[k])], table);
     }
 }

@@ -1,132 +1,91 @@
 // Partition refinement over a snapshot, stage by stage.
-ghost use Rattle.std.specs.Prelude.{◌≡◌, ℕ, ◌<◌, ◌≤◌, true, Decides, slice_index};
+ghost use Rattle.std.specs.Prelude.{◌≡◌, ℕ, ◌<◌, ◌≤◌, Decides, slice_index};
+ghost use Rattle.std.specs.List.{list_any};
 ghost use Rattle.net.specs.Limits.{most_places};
 ghost use Rattle.team.specs.Stages.{rounds as rounds_of};
 ghost use Rattle.team.specs.Classes.{class_of, ClassedBy};
-ghost use Rattle.classing.specs.Snapshots.{Sound};
-ghost use Rattle.classing.specs.Staying.{Has, Covers, Stays, LowestStay};
+ghost use Rattle.classing.specs.Profiles.{equal};
+ghost use Rattle.classing.specs.Staying.{profiles_at, covers, Stays, LowestStay};
 
 use crate::profile::{Profile, describe_all};
 use crate::snapshot::Snapshot;
 use crate::table::ClassTable;
 use net::{MOST_TRANSITIONS, Net};
 
-// Whether some move of place q has the profile.
-fn has_profile(
-    snapshot: &Snapshot,
-    profiles: &[Profile; MOST_TRANSITIONS],
-    q: usize,
-    profile: &Profile,
-) -> bool
-    requires sound { Sound snapshot.now }
-    requires known { q < most_places }
-    ensures { Decides result (Has snapshot.now profiles.now q profile.now) }
-{
-    let mut u = usize::from(snapshot.firsts[q]);
-    while u < snapshot.count {
-        if profiles[u].same(profile) {
+// A stage: the classes of the places, and by them the profiles of the moves in the snapshot's order.
+#[derive(Clone, Copy)]
+struct Stage<'a> {
+    snapshot: &'a Snapshot,
+    table: &'a ClassTable,
+    profiles: &'a [Profile; MOST_TRANSITIONS],
+}
+
+impl Stage<'_> {
+    // The profiles of the moves of a place.
+    fn profiles_of(&self, place: usize) -> &[Profile]
+        requires { place < most_places }
+        ensures { result.now ≡ profiles_at self.now.snapshot.now self.now.profiles.now place }
+    {
+        let profiles = self.profiles;
+        &profiles[self.snapshot.starts[place]..self.snapshot.starts[place + 1]]
+    }
+
+    // Whether some move of q has the profile.
+    fn has(&self, q: usize, profile: &Profile) -> bool
+        requires { q < most_places }
+        ensures { result ≡ list_any (λ one. equal one profile.now) (profiles_at self.now.snapshot.now self.now.profiles.now q) }
+    {
+        self.profiles_of(q).contains(profile)
+    }
+
+    // Whether the profile of each move of p is that of some move of q.
+    fn covers(&self, p: usize, q: usize) -> bool
+        requires left { p < most_places }
+        requires right { q < most_places }
+        ensures { result ≡ covers self.now.snapshot.now self.now.profiles.now p q }
+    {
+        self.profiles_of(p).iter().all(|profile| self.has(q, profile))
+    }
+
+    // Whether p and q stay together. Equal profiles in equal order are quick to see.
+    fn keeps(&self, p: usize, q: usize) -> bool
+        requires left { p < most_places }
+        requires right { q < most_places }
+        ensures { Decides result (Stays self.now.snapshot.now self.now.profiles.now self.now.table.now.classes p q) }
+    {
+        if self.table.classes[p] != self.table.classes[q] {
+            return false;
+        }
+        if self.profiles_of(p) == self.profiles_of(q) {
             return true;
         }
-        u = usize::from(snapshot.nexts[u]);
+        self.covers(p, q) && self.covers(q, p)
     }
-    false
-}
 
-// Whether the profile of each move of p is that of some move of q.
-fn is_covered(
-    snapshot: &Snapshot,
-    profiles: &[Profile; MOST_TRANSITIONS],
-    p: usize,
-    q: usize,
-) -> bool
-    requires sound { Sound snapshot.now }
-    requires known { (p < most_places) × (q < most_places) }
-    ensures { Decides result (Covers snapshot.now profiles.now p q) }
-{
-    let mut t = usize::from(snapshot.firsts[p]);
-    while t < snapshot.count {
-        if !has_profile(snapshot, profiles, q, &profiles[t]) {
-            return false;
+    // The lowest place that stays together with p. Only those count that are the lowest of their own new class.
+    fn lowest(&self, next: &ClassTable, p: usize) -> usize
+        requires known { p < most_places }
+        requires low { (q : ℕ) → q ≤ p → slice_index self.now.table.now.classes q ≤ q }
+        requires done { (q : ℕ) → q < p → LowestStay self.now.snapshot.now self.now.profiles.now self.now.table.now.classes q (slice_index next.now.classes q) }
+        ensures { LowestStay self.now.snapshot.now self.now.profiles.now self.now.table.now.classes p result }
+    {
+        // Kept: `find` in place of this loop was proved, and chains of places took a sixth longer to class, past the time of the older form.
+        for q in usize::from(self.table.classes[p])..p {
+            if usize::from(next.classes[q]) == q && self.keeps(q, p) {
+                return q;
+            }
         }
-        t = usize::from(snapshot.nexts[t]);
+        p
     }
-    true
-}
 
-// Whether the moves of p and of q have the same profiles in the same order, which is quick to see.
-fn in_step(snapshot: &Snapshot, profiles: &[Profile; MOST_TRANSITIONS], p: usize, q: usize) -> bool
-    requires sound { Sound snapshot.now }
-    requires known { (p < most_places) × (q < most_places) }
-    ensures { result ≡ true → Covers snapshot.now profiles.now p q × Covers snapshot.now profiles.now q p }
-{
-    let mut t = usize::from(snapshot.firsts[p]);
-    let mut u = usize::from(snapshot.firsts[q]);
-    while t < snapshot.count && u < snapshot.count {
-        if !profiles[t].same(&profiles[u]) {
-            return false;
+    // Writes the next stage's table.
+    fn refine(&self, next: &mut ClassTable)
+        requires { (q : ℕ) → q < self.now.snapshot.now.places → slice_index self.now.table.now.classes q ≤ q }
+        ensures { (p : ℕ) → p < self.now.snapshot.now.places → LowestStay self.now.snapshot.now self.now.profiles.now self.now.table.now.classes p (slice_index next.new.classes p) }
+    {
+        for p in 0..self.snapshot.places {
+            next.classes[p] = self.lowest(next, p) as u8;
         }
-        t = usize::from(snapshot.nexts[t]);
-        u = usize::from(snapshot.nexts[u]);
-    }
-    t >= snapshot.count && u >= snapshot.count
-}
-
-// Whether p and q stay together.
-fn stay(
-    snapshot: &Snapshot,
-    profiles: &[Profile; MOST_TRANSITIONS],
-    table: &ClassTable,
-    p: usize,
-    q: usize,
-) -> bool
-    requires sound { Sound snapshot.now }
-    requires known { (p < most_places) × (q < most_places) }
-    ensures { Decides result (Stays snapshot.now profiles.now table.now.classes p q) }
-{
-    if table.classes[p] != table.classes[q] {
-        return false;
-    }
-    if in_step(snapshot, profiles, p, q) {
-        return true;
-    }
-    is_covered(snapshot, profiles, p, q) && is_covered(snapshot, profiles, q, p)
-}
-
-// The lowest place that stays together with p. Only those count that are the lowest of their own new class.
-fn lowest(
-    snapshot: &Snapshot,
-    profiles: &[Profile; MOST_TRANSITIONS],
-    table: &ClassTable,
-    next: &ClassTable,
-    p: usize,
-) -> usize
-    requires sound { Sound snapshot.now }
-    requires known { p < most_places }
-    requires low { (slice_index table.now.classes p ≤ p) × (((q : ℕ) → q < p → slice_index table.now.classes q ≤ q)) }
-    requires done { (q : ℕ) → q < p → LowestStay snapshot.now profiles.now table.now.classes q (slice_index next.now.classes q) }
-    ensures { LowestStay snapshot.now profiles.now table.now.classes p result }
-{
-    for q in usize::from(table.classes[p])..p {
-        if usize::from(next.classes[q]) == q && stay(snapshot, profiles, table, q, p) {
-            return q;
-        }
-    }
-    p
-}
-
-// Writes the next stage's table.
-fn refined(
-    snapshot: &Snapshot,
-    profiles: &[Profile; MOST_TRANSITIONS],
-    table: &ClassTable,
-    next: &mut ClassTable,
-)
-    requires sound { Sound snapshot.now }
-    requires low { (q : ℕ) → q < snapshot.now.places → slice_index table.now.classes q ≤ q }
-    ensures { (p : ℕ) → p < snapshot.now.places → LowestStay snapshot.now profiles.now table.now.classes p (slice_index next.new.classes p) }
-{
-    for p in 0..snapshot.places {
-        next.classes[p] = lowest(snapshot, profiles, table, next, p) as u8;
     }
 }
 
@@ -151,7 +110,12 @@ impl Partition {
         let mut rounds: usize = 0;
         'stages: loop {
             describe_all(&snapshot, &table, &mut profiles);
-            refined(&snapshot, &profiles, &table, &mut next);
+            let stage = Stage {
+                snapshot: &snapshot,
+                table: &table,
+                profiles: &profiles,
+            };
+            stage.refine(&mut next);
             if table.agrees(&next, snapshot.places) {
                 return Partition { table, rounds };
             }

@@ -1,10 +1,11 @@
 // A snapshot of a net: all that the refinement asks, taken once.
 ghost use Rattle.std.specs.Prelude.{◌≡◌, ℕ, ◌<◌, ◌≤◌, slice_index};
 ghost use Rattle.net.specs.Meaning.{count_of, transition};
-ghost use Rattle.net.specs.Limits.{most_places, most_total, most_transitions};
+ghost use Rattle.net.specs.Limits.{most_total};
 ghost use Rattle.classing.specs.Targets.{Spells};
-ghost use Rattle.classing.specs.Snapshots.{Keeps, Linked, Shows, place_at};
+ghost use Rattle.classing.specs.Snapshots.{Keeps, NumbersOf, Sound};
 
+use crate::groups::{STARTS, order_of, starts_of};
 use net::{MOST_PLACES, MOST_TOTAL, MOST_TRANSITIONS, Net};
 
 // A transition puts down so many tokens at most.
@@ -21,14 +22,26 @@ pub struct Move {
     pub targets: [u8; WIDTH],
 }
 
-// The transitions of a net, and those of each place as a chain: `firsts` of the place, then `nexts`, to the end at `count`.
+// The transitions of a net, and the numbers of those of each place.
 #[derive(Drop)]
 pub struct Snapshot {
     pub places: usize,
     pub count: usize,
     pub moves: [Move; MOST_TRANSITIONS],
-    pub firsts: [u16; MOST_PLACES],
-    pub nexts: [u16; MOST_TRANSITIONS],
+    pub(crate) starts: [usize; STARTS],
+    pub(crate) order: [u16; MOST_TRANSITIONS],
+    ghost sound: { Sound places count moves starts order },
+}
+
+// Writes the place to each target from `start` on and before `end`.
+fn put(targets: &mut [u8; WIDTH], start: usize, end: usize, place: u8)
+    requires rising { start ≤ end }
+    requires room { end ≤ most_total }
+    ensures inside { (j : ℕ) → start ≤ j → j < end → slice_index targets.new j ≡ place }
+    ensures before { (j : ℕ) → j < start → slice_index targets.new j ≡ slice_index targets.old j }
+    ensures after { (j : ℕ) → end ≤ j → slice_index targets.new j ≡ slice_index targets.old j }
+{
+    targets[start..end].fill(place);
 }
 
 // Where the tokens of transition t go, in rising order. The net is asked only until its total is found.
@@ -39,17 +52,13 @@ fn targets_of<N: Net>(net: &N, t: usize) -> [u8; WIDTH]
     let mut targets = [NO_TARGET; WIDTH];
     let total = usize::from(net.total(t));
     let mut found: usize = 0;
-    let mut p: usize = 0;
-    let mut left = net.tokens(t, 0);
-    while found < total {
-        if left > 0 {
-            targets[found] = p as u8;
-            found += 1;
-            left -= 1;
-        } else {
-            p += 1;
-            left = net.tokens(t, p);
+    for p in 0..net.places() {
+        if found == total {
+            break;
         }
+        let end = found + usize::from(net.tokens(t, p));
+        put(&mut targets, found, end, p as u8);
+        found = end;
     }
     targets
 }
@@ -67,28 +76,9 @@ fn ask<N: Net>(net: &N, t: usize) -> Move
     }
 }
 
-// Chains the moves of each place, from the last to the first.
-fn link(
-    count: usize,
-    moves: &[Move; MOST_TRANSITIONS],
-    firsts: &mut [u16; MOST_PLACES],
-    nexts: &mut [u16; MOST_TRANSITIONS],
-)
-    requires few { count ≤ most_transitions }
-    requires known { (t : ℕ) → t < count → place_at moves.now t < most_places }
-    requires clear { (p : ℕ) → p < most_places → slice_index firsts.old p ≡ count }
-    ensures { Linked count moves.now firsts.new nexts.new }
-{
-    let mut t = count;
-    while t > 0 {
-        t -= 1;
-        let p = usize::from(moves[t].place);
-        nexts[t] = firsts[p];
-        firsts[p] = t as u16;
-    }
-}
-
 impl Snapshot {
+    ghost use Rattle.classing.specs.Shown.{Shows};
+
     // Asks the net once for all that it means.
     pub fn of<N: Net>(net: &N) -> Snapshot
         ensures { Shows (N.Net.meaning net.now) result }
@@ -102,15 +92,25 @@ impl Snapshot {
         for t in 0..count {
             moves[t] = ask(net, t);
         }
-        let mut firsts = [count as u16; MOST_PLACES];
-        let mut nexts = [0; MOST_TRANSITIONS];
-        link(count, &moves, &mut firsts, &mut nexts);
+        let starts = starts_of(&moves[..count]);
+        let order = order_of(&moves[..count], &starts);
         Snapshot {
             places: net.places(),
             count,
             moves,
-            firsts,
-            nexts,
+            starts,
+            order,
+        }
+    }
+
+    // The numbers of the transitions of a place in rising order, none where the net has no such place.
+    pub fn moves_of(&self, place: usize) -> &[u16]
+        ensures { NumbersOf self.now.count self.now.moves place result.now }
+    {
+        if place < MOST_PLACES {
+            &self.order[self.starts[place]..self.starts[place + 1]]
+        } else {
+            &[]
         }
     }
 }

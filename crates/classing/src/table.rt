@@ -25,7 +25,7 @@ impl ClassTable {
     pub fn class_of(&self, p: usize) -> u8
         ensures { result ≡ slice_index self.now.classes p }
     {
-        if p < MOST_PLACES { self.classes[p] } else { 0 }
+        self.classes.get(p).copied().unwrap_or(0)
     }
 
     // Whether the two tables have the same classes for the first n places.
@@ -33,22 +33,16 @@ impl ClassTable {
         requires { n ≤ most_places }
         ensures { result ≡ agree n self.now.classes other.now.classes }
     {
-        for p in 0..n {
-            if self.classes[p] != other.classes[p] {
-                return false;
-            }
-        }
-        true
+        self.classes[..n] == other.classes[..n]
     }
 
     // Writes the classes of the first n places into the list.
     pub(crate) fn write(&self, n: usize, list: &mut [u8])
-        requires { (n ≤ most_places) × (n ≤ length list.old) }
+        requires few { n ≤ most_places }
+        requires room { n ≤ length list.old }
         ensures written { (p : ℕ) → p < n → slice_index list.new p ≡ slice_index self.now.classes p }
         ensures kept { (p : ℕ) → n ≤ p → slice_index list.new p ≡ slice_index list.old p }
     {
-        for p in 0..n {
-            list[p] = self.classes[p];
-        }
+        list[..n].copy_from_slice(&self.classes[..n]);
     }
 }

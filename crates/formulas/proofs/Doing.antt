@@ -1,4 +1,4 @@
--- What a line of kind 3 asks of a transition, as a test.
+-- What a modal line asks of a transition, as a test.
 use Rattle.std.proofs.Common.{◌≡◌, ℕ, ◌<◌, eqb, Decides, refl}
 use Rattle.std.proofs.lemmas.Bool.Decides.{Decides-eqb, Decides-and, Decides-like, Decides-below_and, Decides-below_or}
 use Rattle.net.specs.Meaning.{Meaning, transition, count_of, total_of}

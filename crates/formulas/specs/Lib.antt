@@ -1,3 +1,4 @@
+pub mod Kind
 pub mod Lines
 pub mod Truths
 pub mod Theorems

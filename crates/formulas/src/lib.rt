@@ -3,8 +3,10 @@
 
 ghost use Rattle.formulas.specs.Theorems.{LinesHold, LinesRespect};
 
+mod kind;
 mod line;
 
+pub use kind::{Kind, UnknownKind};
 pub use line::{Line, MOST_LINES, MOST_PAIRS, Pair, first_unlawful};
 
 // A line of a lawful sheet holds as its kind says, by the lines that it names.

@@ -1,7 +1,9 @@
 // One line of a sheet, and which lines are lawful.
-ghost use Rattle.std.specs.Prelude.{◌≡◌, Decides};
-ghost use Rattle.formulas.specs.Lines.{uses, only_modal, LawfulPair, LawfulHead, LawfulLine, FirstUnlawful};
+ghost use Rattle.std.specs.Prelude.{◌≡◌, ◌↔◌, IsTrue};
+ghost use Rattle.formulas.specs.Kind.{number_of};
+ghost use Rattle.formulas.specs.Lines.{used_pairs, LawfulPair, LawfulHead, LawfulPairs, LawfulLine, FirstUnlawful};
 
+use crate::kind::Kind;
 use net::{MOST_LABEL, MOST_TOTAL};
 
 // A sheet has so many lines at most.
@@ -17,68 +19,65 @@ pub struct Pair {
     pub count: u8,
 }
 
-// A formula. Kind 0 holds everywhere; kind 1 where the line of its first pair does not; kind 2 where those of its first and second pair both do;
-// kind 3 at a place with a transition of that label and total that puts, for each of the used pairs, that count of tokens where that line holds.
+// A formula. Its kind says where it holds, and which of the other fields it uses.
 #[derive(Clone, Copy, PartialEq, Eq, Debug)]
 pub struct Line {
+    // Kept: the number of a kind and no `Kind`, since a sheet may hold lines of unlawful kinds, and those must be there to be refused.
     pub kind: u8,
     pub label: u8,
     pub total: u8,
+    // Kept: how many pairs are used, as a number beside them: it may be one that no line can use, and that must be there to be refused.
     pub used: u8,
     pub pairs: [Pair; MOST_PAIRS],
 }
 
 impl Line {
+    // The pairs that the line uses: its first ones, as many as it says, and all where it says more than there are.
+    pub fn used_pairs(&self) -> &[Pair]
+        ensures { result.now ≡ used_pairs self.now }
+    {
+        self.pairs
+            .get(..usize::from(self.used))
+            .unwrap_or(&self.pairs)
+    }
+
     // Whether the line may stand at the number `at`: it names only lines before it, keeps the limits, and what it does not use is 0.
     pub fn is_lawful(&self, at: usize) -> bool
-        ensures { Decides result (LawfulLine at self.now) }
+        ensures { IsTrue result ↔ (LawfulLine at self.now) }
     {
-        if !self.has_lawful_head() {
+        let Ok(kind) = Kind::try_from(self.kind) else {
             return false;
-        }
-        let used = named_pairs(self.kind, self.used);
-        let most = modal_only(self.kind, MOST_TOTAL);
-        for k in 0..MOST_PAIRS {
-            if !is_lawful_pair(at, used, most, &self.pairs[k], k as u8) {
-                return false;
-            }
-        }
-        true
+        };
+        self.has_lawful_head(kind) && self.has_lawful_pairs(kind, at)
     }
 
-    // Whether the kind is known and what stands before the pairs keeps the limits.
-    fn has_lawful_head(&self) -> bool
-        ensures { Decides result (LawfulHead self.now) }
+    // Whether what stands before the pairs keeps the limits of the line's kind.
+    fn has_lawful_head(&self, kind: Kind) -> bool
+        requires { number_of kind ≡ self.now.kind }
+        ensures { IsTrue result ↔ (LawfulHead self.now) }
     {
-        self.kind <= 3
-            && self.label <= modal_only(self.kind, MOST_LABEL)
-            && self.total <= modal_only(self.kind, MOST_TOTAL)
-            && self.used <= modal_only(self.kind, MOST_TOTAL)
+        self.label <= kind.modal_only(MOST_LABEL)
+            && self.total <= kind.modal_only(MOST_TOTAL)
+            && self.used <= kind.modal_only(MOST_TOTAL)
     }
-}
 
-// How many of its pairs a line of a kind uses.
-fn named_pairs(kind: u8, used: u8) -> u8
-    ensures { result ≡ uses kind used }
-{
-    match kind {
-        0 => 0,
-        1 => 1,
-        2 => 2,
-        _ => used,
+    // Whether the pairs that a line of the kind names are lawful, and the others 0.
+    fn has_lawful_pairs(&self, kind: Kind, at: usize) -> bool
+        requires { number_of kind ≡ self.now.kind }
+        ensures { IsTrue result ↔ (LawfulPairs at self.now) }
+    {
+        let used = usize::from(kind.named_pairs(self.used));
+        let most = kind.modal_only(MOST_TOTAL);
+        self.pairs
+            .iter()
+            .enumerate()
+            .all(|(k, pair)| is_lawful_pair(at, used, most, pair, k))
     }
-}
-
-// A limit that only kind 3 has; for the others it is 0.
-fn modal_only(kind: u8, most: u8) -> u8
-    ensures { result ≡ only_modal kind most }
-{
-    if kind == 3 { most } else { 0 }
 }
 
 // Whether pair k names a line below `at` with a count up to `most`, if it is used, and is 0 if not.
-fn is_lawful_pair(at: usize, used: u8, most: u8, pair: &Pair, k: u8) -> bool
-    ensures { Decides result (LawfulPair at used most k pair.now) }
+fn is_lawful_pair(at: usize, used: usize, most: u8, pair: &Pair, k: usize) -> bool
+    ensures { IsTrue result ↔ (LawfulPair at used most k pair.now) }
 {
     if k < used {
         usize::from(pair.line) < at && pair.count <= most
@@ -91,10 +90,8 @@ fn is_lawful_pair(at: usize, used: u8, most: u8, pair: &Pair, k: u8) -> bool
 pub fn first_unlawful(sheet: &[Line]) -> Option<usize>
     ensures { FirstUnlawful sheet.now result }
 {
-    for i in 0..sheet.len() {
-        if !sheet[i].is_lawful(i) {
-            return Some(i);
-        }
-    }
-    None
+    sheet
+        .iter()
+        .enumerate()
+        .position(|(i, line)| !line.is_lawful(i))
 }

@@ -1,40 +1,32 @@
 -- The line of a move, target by target.
-use Rattle.std.proofs.Common.{◌≡◌, ℕ, ◌+◌, ◌<◌, ◌≢◌, List, get_or, set, sym, refl, ap, ◌∙◌, inl, inr, arith}
+use Rattle.std.proofs.Common.{◌≡◌, ℕ, ◌+◌, ◌<◌, List, [], ◌∷◌, ◌++◌, length, get_or, set, take, Any, refl, sym, ap, ◌∙◌, inl, inr, arith, get_or-set_other}
 use Rattle.std.proofs.lemmas.Bool.{cases_eq}
-use Rattle.std.proofs.lemmas.List.{get_or-set_same, get_or-set_other, length-set}
+use Rattle.std.proofs.lemmas.List.{length-set, length-append, take_more_set, get_or_append_left, get_or-append_right}
+use Rattle.std.proofs.lemmas.List.Elements.{All-push}
 use Rattle.net.specs.Limits.{most_places, most_total}
 use Rattle.classing.specs.declared.snapshot.Move.{Move}
-use Rattle.formulas.specs.Lines.{no_pair, pair_at}
+use Rattle.formulas.specs.Lines.{no_pair, used_pairs}
 use Rattle.formulas.specs.declared.line.Line.{Line}
 use Rattle.formulas.specs.declared.line.Pair.{Pair}
 use Rattle.sheets.specs.Blocks.{in_block}
 use Rattle.sheets.specs.Doing.{tokens_where}
-use Rattle.sheets.specs.Drawing.{Names, Draws}
+use Rattle.sheets.specs.Drawing.{BlockOf, Draws}
+
+-- the element that some fact holds of is still there once one more is pushed, and the fact may hold of the new one
+any_kept : {X : Type 0} (P : X → Type 0) (xs : List X) (x : X) → Any P xs → Any P (xs ++ x ∷ [])
+any_kept P xs x (k, y, w, e, p) =
+    (k, y, simp length-append (omega arith), get_or_append_left xs (x ∷ []) y k w ∙ e, p)
+
+any_pushed : {X : Type 0} (P : X → Type 0) (xs : List X) (x : X) → P x → Any P (xs ++ x ∷ [])
+any_pushed P xs x p =
+    (length xs, x, simp length-append (omega arith), grind (arith, get_or-append_right xs (x ∷ []) (length xs) (length xs) x refl), p)
 
 module _ (cs : List ℕ) (this : Move) (j : ℕ) (l : Line) (D : Draws cs this j l) where
-  -- target j asks for no pair of its own
-  pub draws_skip : (get_or this.targets j 0 < most_places → Names l (get_or cs (get_or this.targets j 0) 0)) → Draws cs this (j + 1) l
-  draws_skip here =
-      record {
-        modal = D.modal;
-        label = D.label;
-        total = D.total;
-        few = omega (arith, D.few);
-        long = D.long;
-        named = D.named;
-        counted = D.counted;
-        all = λ i w g. elim (cases_eq i j) [ inl e ↦ rw e (here (rw (← e) g)) | inr d ↦ D.all i (omega arith) g ];
-        rest = D.rest;
-      }
-
   -- a pair for target j
   module _ (known : j < most_total) (place : get_or this.targets j 0 < most_places) (x : Pair) (names : x.line ≡ get_or cs (get_or this.targets j 0) 0)
       (counts : x.count ≡ tokens_where (in_block cs) this.targets x.line) where
-    new : (i : ℕ) → i ≡ l.used → get_or (set l.pairs l.used x) i no_pair ≡ x
-    new i e = rw e (get_or-set_same l.pairs l.used x no_pair (omega (arith, D.few, D.long)))
-
-    old : (i : ℕ) → i ≢ l.used → get_or (set l.pairs l.used x) i no_pair ≡ pair_at l i
-    old i d = get_or-set_other l.pairs l.used i x no_pair d
+    pushed : take (l.used + 1) (set l.pairs l.used x) ≡ used_pairs l ++ x ∷ []
+    pushed = take_more_set l.pairs l.used x (omega (arith, D.few, D.long))
 
     pub draws_more : (at : ℕ) → at ≡ l.used → Draws cs this (j + 1) (record { kind = l.kind; label = l.label; total = l.total; used = l.used + 1; pairs = set l.pairs at x })
     draws_more at e =
@@ -44,17 +36,11 @@ module _ (cs : List ℕ) (this : Move) (j : ℕ) (l : Line) (D : Draws cs this j
           total = D.total;
           few = omega (arith, D.few);
           long = length-set l.pairs l.used x ∙ D.long;
-          named = λ i w. elim (cases_eq i l.used) [
-            | inl e ↦ (j, known, place, ap (λ y. y.line) (new i e) ∙ names)
-            | inr d ↦ (let (k, a, b, c) = D.named i (omega arith) in (k, a, b, ap (λ y. y.line) (old i d) ∙ c))
-          ];
-          counted = λ i w. elim (cases_eq i l.used) [
-            | inl e ↦ ap (λ y. y.count) (new i e) ∙ counts ∙ ap (tokens_where (in_block cs) this.targets) (sym (ap (λ y. y.line) (new i e)))
-            | inr d ↦ ap (λ y. y.count) (old i d) ∙ D.counted i (omega arith) ∙ ap (tokens_where (in_block cs) this.targets) (sym (ap (λ y. y.line) (old i d)))
-          ];
-          all = λ i w g. elim (cases_eq i j) [
-            | inl e ↦ (l.used, omega arith, ap (λ y. y.line) (new l.used refl) ∙ names ∙ ap (λ k. get_or cs (get_or this.targets k 0) 0) (sym e))
-            | inr d ↦ (let (k, a, b) = D.all i (omega arith) g in (k, omega arith, ap (λ y. y.line) (old k (omega arith)) ∙ b))
-          ];
-          rest = λ i w. old i (omega arith) ∙ D.rest i (omega arith);
+          named = rw pushed (All-push (λ y. BlockOf cs this.targets y.line) (used_pairs l) x D.named (j, known, place, names));
+          counted = rw pushed (All-push (λ y. y.count ≡ tokens_where (in_block cs) this.targets y.line) (used_pairs l) x D.counted counts);
+          all = λ i w g. rw pushed (elim (cases_eq i j) [
+            | inl e ↦ any_pushed _ (used_pairs l) x (names ∙ ap (λ k. get_or cs (get_or this.targets k 0) 0) (sym e))
+            | inr d ↦ any_kept _ (used_pairs l) x (D.all i (omega arith) g)
+          ]);
+          rest = λ i w. get_or-set_other l.pairs l.used i x no_pair (omega arith) ∙ D.rest i (omega arith);
         })

@@ -1,5 +1,5 @@
 // The blocks of a sheet in the making.
-ghost use Rattle.std.specs.Prelude.{◌≡◌, ℕ, ◌<◌, ◌≤◌, length, Decides, slice_index};
+ghost use Rattle.std.specs.Prelude.{◌≡◌, ◌↔◌, ℕ, ◌<◌, ◌≤◌, IsTrue, length, replicate, slice_index};
 ghost use Rattle.net.specs.Limits.{most_places};
 ghost use Rattle.sheets.specs.Blocks.{in_block, SomeIn};
 
@@ -7,6 +7,7 @@ use crate::tells::Tells;
 use net::MOST_PLACES;
 
 // For each place the number of the line that holds exactly at its block.
+// Kept: a table of its own beside the class table, which is a plain struct of its own by a rule of the project; what both do is one call of the library each.
 #[derive(Clone, Copy)]
 pub(crate) struct Blocks {
     pub(crate) lines: [u16; MOST_PLACES],
@@ -23,7 +24,7 @@ impl Tells for Blocks {
 impl Blocks {
     // All places in the block of line 0.
     pub(crate) fn start() -> Blocks
-        ensures { (p : ℕ) → slice_index result.lines p ≡ 0 }
+        ensures { result.lines ≡ replicate most_places 0 }
     {
         Blocks {
             lines: [0; MOST_PLACES],
@@ -33,24 +34,18 @@ impl Blocks {
     // Whether one of the first n places is in the block of the line.
     pub(crate) fn has(&self, n: usize, line: u16) -> bool
         requires { n ≤ most_places }
-        ensures { Decides result (SomeIn self.now.lines n line) }
+        ensures { IsTrue result ↔ (SomeIn self.now.lines n line) }
     {
-        for q in 0..n {
-            if self.lines[q] == line {
-                return true;
-            }
-        }
-        false
+        self.lines[..n].contains(&line)
     }
 
     // Writes the line of each of the first n places into the list.
     pub(crate) fn write(&self, n: usize, list: &mut [u16])
-        requires { (n ≤ most_places) × (n ≤ length list.old) }
+        requires few { n ≤ most_places }
+        requires room { n ≤ length list.old }
         ensures written { (p : ℕ) → p < n → slice_index list.new p ≡ slice_index self.now.lines p }
         ensures kept { (p : ℕ) → n ≤ p → slice_index list.new p ≡ slice_index list.old p }
     {
-        for p in 0..n {
-            list[p] = self.lines[p];
-        }
+        list[..n].copy_from_slice(&self.lines[..n]);
     }
 }

@@ -1,70 +1,51 @@
 // Whether the moves of a place do what a line says.
-ghost use Rattle.std.specs.Prelude.{◌≡◌, ◌<◌, ◌≤◌, Decides};
-ghost use Rattle.net.specs.Limits.{most_places, most_total};
-ghost use Rattle.classing.specs.Snapshots.{Sound};
-ghost use Rattle.sheets.specs.Doing.{stands, tokens_where, targets_in, PutsLike, MoveDoes, Answers};
+ghost use Rattle.std.specs.Prelude.{◌≡◌, ◌↔◌, IsTrue};
+ghost use Rattle.sheets.specs.Doing.{stands, tokens_where, targets_in, puts_like, MoveDoes, Answers};
 
 use crate::tells::Tells;
 use classing::{Move, Snapshot, WIDTH};
 use formulas::Line;
 use net::MOST_PLACES;
 
-// 1 where the target is a place at which the line holds, else 0.
-fn stands_where<T: Tells>(truths: &T, line: u16, target: u8) -> u8
+// Whether the target is a place at which the line holds.
+fn stands_where<T: Tells>(truths: &T, line: u16, target: u8) -> bool
     ensures { result ≡ stands (T.Tells.tells truths.now) line target }
 {
-    if usize::from(target) >= MOST_PLACES {
-        return 0;
-    }
-    if truths.tell(line, usize::from(target)) {
-        1
-    } else {
-        0
-    }
+    let place = usize::from(target);
+    place < MOST_PLACES && truths.tell(line, place)
 }
 
 // How many of the targets stand where the line holds.
 pub(crate) fn tokens_where<T: Tells>(truths: &T, line: u16, targets: &[u8; WIDTH]) -> u8
     ensures { result ≡ tokens_where (T.Tells.tells truths.now) targets.now line }
 {
-    let mut sum: u8 = 0;
-    for j in 0..WIDTH {
-        sum += stands_where(truths, line, targets[j]);
-    }
-    sum
+    targets
+        .iter()
+        .filter(|&&target| stands_where(truths, line, target))
+        .count() as u8
 }
 
 // How many targets there are.
+// Kept: a chain of its own beside that of `tokens_where`, since a shared one would take the test as a closure, and its contract would have to say what that gives.
 pub(crate) fn total_of(targets: &[u8; WIDTH]) -> u8
     ensures { result ≡ targets_in targets.now }
 {
-    let mut sum: u8 = 0;
-    for j in 0..WIDTH {
-        if usize::from(targets[j]) < MOST_PLACES {
-            sum += 1;
-        }
-    }
-    sum
+    targets
+        .iter()
+        .filter(|&&target| usize::from(target) < MOST_PLACES)
+        .count() as u8
 }
 
-// Whether as many of the targets stand where each line that is named holds as its pair counts.
+// Whether, for each pair that the line uses, as many of the targets stand where its line holds as it counts.
 fn puts_like<T: Tells>(truths: &T, line: &Line, targets: &[u8; WIDTH]) -> bool
-    requires { line.now.used ≤ most_total }
-    ensures { Decides result (PutsLike (T.Tells.tells truths.now) line.now targets.now) }
+    ensures { result ≡ puts_like (T.Tells.tells truths.now) line.now targets.now }
 {
-    for k in 0..usize::from(line.used) {
-        let pair = line.pairs[k];
-        if tokens_where(truths, pair.line, targets) != pair.count {
-            return false;
-        }
-    }
-    true
+    line.used_pairs().iter().all(|pair| tokens_where(truths, pair.line, targets) == pair.count)
 }
 
 // Whether the move does what the line says.
 fn does<T: Tells>(truths: &T, line: &Line, this: &Move) -> bool
-    requires { line.now.used ≤ most_total }
-    ensures { Decides result (MoveDoes (T.Tells.tells truths.now) line.now this.now) }
+    ensures { IsTrue result ↔ (MoveDoes (T.Tells.tells truths.now) line.now this.now) }
 {
     this.label == line.label
         && total_of(&this.targets) == line.total
@@ -73,17 +54,10 @@ fn does<T: Tells>(truths: &T, line: &Line, this: &Move) -> bool
 
 // Whether some move of the place q does what the line says.
 pub(crate) fn answers<T: Tells>(snapshot: &Snapshot, truths: &T, line: &Line, q: usize) -> bool
-    requires sound { Sound snapshot.now }
-    requires known { q < most_places }
-    requires few { line.now.used ≤ most_total }
-    ensures { Decides result (Answers snapshot.now (T.Tells.tells truths.now) line.now q) }
+    ensures { IsTrue result ↔ (Answers snapshot.now (T.Tells.tells truths.now) line.now q) }
 {
-    let mut u = usize::from(snapshot.firsts[q]);
-    while u < snapshot.count {
-        if does(truths, line, &snapshot.moves[u]) {
-            return true;
-        }
-        u = usize::from(snapshot.nexts[u]);
-    }
-    false
+    snapshot
+        .moves_of(q)
+        .iter()
+        .any(|&u| does(truths, line, &snapshot.moves[usize::from(u)]))
 }

@@ -5,5 +5,6 @@ mod blocks;
 mod cut;
 mod does;
 mod draw;
+mod lines;
 mod tells;
 mod truths;

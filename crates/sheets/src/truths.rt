@@ -15,11 +15,8 @@ impl Tells for TruthTable {
     ghost tells = { λ t. cell t.rows };
 
     fn tell(&self, line: u16, place: usize) -> bool {
-        let i = usize::from(line);
-        if i < MOST_LINES {
-            self.rows[i][place]
-        } else {
-            false
-        }
+        self.rows
+            .get(usize::from(line))
+            .is_some_and(|row| row[place])
     }
 }

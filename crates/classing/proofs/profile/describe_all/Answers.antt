@@ -4,12 +4,10 @@ use Rattle.classing.specs.Profiles.{no_profile, ProfileOf}
 use Rattle.classing.proofs.Writes.{write_more}
 use Rattle.classing.proofs.profile.describe_all.Goals as goal
 
-pub loop-t-preserved : goal.loop-t-preserved
-loop-t-preserved c = (
-  length-set c.loop-t.profiles c.loop-t.t c.describe.new.profile ∙ c.loop-t.invariant.0,
-  write_more (λ k x. ProfileOf c.args.table.now.classes (get_or c.args.snapshot.now.moves k no_move) x) c.loop-t.profiles c.loop-t.t c.describe.new.profile no_profile
-      (omega (arith, c.loop-t.invariant.0, c.requires.few_moves)) c.loop-t.invariant.1 c.describe.ensures,
-)
-
-pub returns : goal.returns
-returns c = λ t l. c.loop-t.invariant.1 t (omega arith)
+pub loop-k-preserved : goal.loop-k-preserved
+loop-k-preserved c =
+    let s = c.args.snapshot.now in (
+      length-set c.loop-k.profiles c.loop-k.k c.describe.result ∙ c.loop-k.invariant.0,
+      write_more (λ k x. ProfileOf c.args.table.now.classes (get_or s.moves (get_or s.order k 0) no_move) x) c.loop-k.profiles c.loop-k.k c.describe.result no_profile
+          (omega (arith, c.loop-k.invariant.0, s.sound.few_moves)) c.loop-k.invariant.1 (rw (← c.from.ensures) c.describe.ensures),
+    )

@@ -1,5 +1,5 @@
 use Rattle.sheets.specs.Drawing.{Draws}
 use Rattle.sheets.proofs.draw.draw.Given as goal
 
-abbrev pub invariant-loop-j : goal.invariant-loop-j
-invariant-loop-j l = Draws l.blocks.lines l.this l.j l.line
+abbrev pub invariant-loop-target : goal.invariant-loop-target
+invariant-loop-target l = Draws l.blocks.lines l.this l.target-index l.line

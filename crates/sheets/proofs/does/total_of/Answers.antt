@@ -1,7 +1,0 @@
-use Rattle.std.proofs.Common.{arith}
-use Rattle.std.proofs.lemmas.Bool.Decides.{nat_tests}
-use Rattle.team.proofs.Sums.{tally_next}
-use Rattle.sheets.proofs.does.total_of.Goals as goal
-
-pub loop-j-preserved : goal.loop-j-preserved
-loop-j-preserved c = grind (arith, tally_next, nat_tests)
