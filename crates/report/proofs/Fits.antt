@@ -1,5 +1,5 @@
 -- Every report fits into the bytes that the caller has to bring.
-use Rattle.std.proofs.Common.{ℕ, zero, suc, ◌*◌, ◌^◌, ◌<◌, ◌≤◌, Bool, true, false, cond, ltb, ◌⊎◌, List, [], ◌∷◌, ◌++◌, length, get_or, IfSome, Some, None, sum, Option, sym, subst, inl, inr, arith}
+use Rattle.std.proofs.Common.{ℕ, zero, suc, ◌*◌, ◌^◌, ◌<◌, ◌≤◌, Bool, true, false, cond, ltb, ◌⊎◌, List, [], ◌∷◌, ◌++◌, length, get_or, IfSome, Some, None, sum, Option, sym, subst, inl, inr, arith, length-append}
 use Rattle.std.proofs.lemmas.Fmt.{length-decimal-le}
 use Rattle.std.proofs.lemmas.List.{get_or_past}
 use Rattle.std.proofs.lemmas.Bool.{cases_lt}
@@ -7,7 +7,6 @@ use Rattle.net.specs.Meaning.{Meaning}
 use Rattle.net.specs.Limits.{Lawful, most_places, most_tokens}
 use Rattle.net.specs.Refusals.{number_of}
 use Rattle.net.specs.declared.refusal.Refusal.{Refusal}
-use Rattle.net.specs.declared.refusal.Refusal.TheVariants.{PartialRecord, MalformedRecord, UndeclaredPlace, OverLimit, Unfit, UnknownSide, OutOfRange, TooFewTokens, CrewsApart, TooManyTokens, ShortList, UnlawfulSheet, UnknownLine}
 use Rattle.net.specs.declared.refusal.Fault.{Fault}
 use Rattle.net.proofs.Markings.{get_or_le_sum}
 use Rattle.team.specs.Pairings.{Cells}
@@ -18,7 +17,6 @@ use Rattle.crews.specs.Verdicts.{AlikeBy}
 use Rattle.crews.specs.declared.swap.Swap.{Swap}
 use Rattle.crews.specs.declared.swap.Difference.{Difference}
 use Rattle.report.specs.Text.{report_size, field, swap_line, swap_lines, alike_text, apart_text, spot_field, refused_text}
-use Rattle.report.proofs.Lengths.{length_swap_line, length_swap_lines_cons, length_apart_text, length_refused_text}
 
 -- ## Swap lists within the limits
 
@@ -59,17 +57,16 @@ most_line = 13
 
 line_short : (s : Swap) → Small s → length (swap_line s) ≤ most_line
 line_short s small =
-    omega (
+    simp length-append (omega (
       arith,
-      length_swap_line s,
       length-decimal-le 3 s.left (omega arith) (omega (arith, small.left)) (omega (arith, small.left)),
       length-decimal-le 3 s.right (omega arith) (omega (arith, small.right)) (omega (arith, small.right)),
       length-decimal-le 4 s.count (omega arith) (omega (arith, small.count)) (omega (arith, small.count)),
-    )
+    ))
 
 lines_short : (list : List Swap) → AllSmall list → length (swap_lines list) ≤ most_line * length list
 lines_short [] u = omega arith
-lines_short (s ∷ list) u = omega (arith, length_swap_lines_cons s list, line_short s u.0, lines_short list u.1)
+lines_short (s ∷ list) u = omega (arith, length-append (swap_line s) (swap_lines list), line_short s u.0, lines_short list u.1)
 
 -- a list of at most so many entries, all within the limits
 alike_short : (list : List Swap) → AllSmall list → length list ≤ 2 * most_places → length (alike_text list) ≤ report_size
@@ -97,22 +94,10 @@ field_short : (n : ℕ) → n < 2 ^ 64 → length (field n) ≤ 21
 field_short n h = omega (arith, length-decimal-le 20 n (omega arith) (omega (arith, h)) h)
 
 pub apart_fits : (d : Difference) → d.class < 2 ^ 64 → d.left < 2 ^ 64 → d.right < 2 ^ 64 → length (apart_text d) ≤ report_size
-apart_fits d a b c = omega (arith, length_apart_text d, field_short d.class a, field_short d.left b, field_short d.right c)
+apart_fits d a b c = simp length-append (omega (arith, field_short d.class a, field_short d.left b, field_short d.right c))
 
 number_small : (r : Refusal) → number_of r ≤ 13
-number_small PartialRecord = omega arith
-number_small MalformedRecord = omega arith
-number_small UndeclaredPlace = omega arith
-number_small OverLimit = omega arith
-number_small Unfit = omega arith
-number_small UnknownSide = omega arith
-number_small OutOfRange = omega arith
-number_small TooFewTokens = omega arith
-number_small CrewsApart = omega arith
-number_small TooManyTokens = omega arith
-number_small ShortList = omega arith
-number_small UnlawfulSheet = omega arith
-number_small UnknownLine = omega arith
+number_small r = grind arith
 
 spot_short : (spot : Option ℕ) → IfSome spot (λ k. k < 2 ^ 64) → length (spot_field spot) ≤ 21
 spot_short None h = omega arith
@@ -120,4 +105,4 @@ spot_short (Some k) h = field_short k h
 
 pub refused_fits : (f : Fault) → IfSome f.spot (λ k. k < 2 ^ 64) → length (refused_text f) ≤ report_size
 refused_fits f h =
-    omega (arith, length_refused_text f, field_short (number_of f.refusal) (omega (arith, number_small f.refusal)), spot_short f.spot h)
+    simp length-append (omega (arith, field_short (number_of f.refusal) (omega (arith, number_small f.refusal)), spot_short f.spot h))

@@ -1,4 +1,3 @@
 pub mod Text
-pub mod Places
 pub mod Reports
 pub mod Reporting
