@@ -1,3 +1,4 @@
 pub mod Text
+pub mod Pages
 pub mod Reports
 pub mod Reporting

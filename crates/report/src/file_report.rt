@@ -1,7 +1,6 @@
 // The report of a file.
-ghost use Rattle.std.specs.Prelude.{◌≡◌, ◌+◌, ◌≤◌, ◌++◌, length};
-ghost use Rattle.arrayvec.specs.ArrayString.{array_string_len};
-ghost use Rattle.report.specs.Text.{report_size};
+ghost use Rattle.std.specs.Prelude.{◌≡◌, ◌++◌};
+ghost use Rattle.report.specs.Pages.{HasRoom};
 ghost use Rattle.report.specs.Reports.{OneText};
 ghost use Rattle.report.specs.Reporting.{Reported, Judges, verdict_text, text_of};
 
@@ -25,7 +24,7 @@ fn judge(bytes: &[u8], entries: &mut [Swap; MOST_SWAPS]) -> Result<Verdict, Faul
 
 // The text of a verdict.
 fn put_verdict(page: &mut Page, entries: [Swap; MOST_SWAPS], verdict: Verdict)
-    requires { array_string_len page.old + length (verdict_text entries verdict) ≤ report_size }
+    requires { HasRoom page.old (verdict_text entries verdict) }
     ensures { page.new.bytes ≡ page.old.bytes ++ verdict_text entries verdict }
 {
     match verdict {
@@ -39,7 +38,7 @@ fn put_verdict(page: &mut Page, entries: [Swap; MOST_SWAPS], verdict: Verdict)
 
 // The text of a verdict, or of the fault where the file is refused.
 fn put_judged(page: &mut Page, entries: [Swap; MOST_SWAPS], judged: Result<Verdict, Fault>)
-    requires { array_string_len page.old + length (text_of entries judged) ≤ report_size }
+    requires { HasRoom page.old (text_of entries judged) }
     ensures { page.new.bytes ≡ page.old.bytes ++ text_of entries judged }
 {
     match judged {

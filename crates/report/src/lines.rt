@@ -1,8 +1,8 @@
 // The texts of a report. Each function writes at the end of the page.
 // Kept: each text is pushed part by part and not by `write!` of a type with Display: the contracts of fmt speak of success alone, and a report's text is promised for every file.
-ghost use Rattle.std.specs.Prelude.{◌≡◌, ◌+◌, ◌≤◌, ◌++◌, length};
-ghost use Rattle.arrayvec.specs.ArrayString.{array_string_len};
-ghost use Rattle.report.specs.Text.{report_size, swap_line, swap_lines, alike_text, apart_text, spot_field, refused_text};
+ghost use Rattle.std.specs.Prelude.{◌≡◌, ◌++◌};
+ghost use Rattle.report.specs.Text.{swap_line, swap_lines, alike_text, apart_text, spot_field, refused_text};
+ghost use Rattle.report.specs.Pages.{HasRoom};
 
 use crate::writing::{Page, end_line, put_field, put_number};
 use crews::{Difference, Swap};
@@ -10,7 +10,7 @@ use net::Fault;
 
 // The line of one entry of a swap list.
 fn put_swap(page: &mut Page, swap: Swap)
-    requires { array_string_len page.old + length (swap_line swap) ≤ report_size }
+    requires { HasRoom page.old (swap_line swap) }
     ensures { page.new.bytes ≡ page.old.bytes ++ swap_line swap }
 {
     put_number(page, swap.left as usize);
@@ -22,7 +22,7 @@ fn put_swap(page: &mut Page, swap: Swap)
 // The lines of a swap list.
 #[tactic(auto, using(crate::proofs::SwapLines::swap_lines_step))]
 fn put_swaps(page: &mut Page, list: &[Swap])
-    requires { array_string_len page.old + length (swap_lines list.now) ≤ report_size }
+    requires { HasRoom page.old (swap_lines list.now) }
     ensures { page.new.bytes ≡ page.old.bytes ++ swap_lines list.now }
 {
     for swap in list {
@@ -32,7 +32,7 @@ fn put_swaps(page: &mut Page, list: &[Swap])
 
 // The crews are ALIKE, with this swap list.
 pub(crate) fn put_alike(page: &mut Page, list: &[Swap])
-    requires { array_string_len page.old + length (alike_text list.now) ≤ report_size }
+    requires { HasRoom page.old (alike_text list.now) }
     ensures { page.new.bytes ≡ page.old.bytes ++ alike_text list.now }
 {
     page.push_str("ALIKE\n");
@@ -41,7 +41,7 @@ pub(crate) fn put_alike(page: &mut Page, list: &[Swap])
 
 // The crews are APART, by this difference.
 pub(crate) fn put_apart(page: &mut Page, by: Difference)
-    requires { array_string_len page.old + length (apart_text by) ≤ report_size }
+    requires { HasRoom page.old (apart_text by) }
     ensures { page.new.bytes ≡ page.old.bytes ++ apart_text by }
 {
     page.push_str("APART");
@@ -53,7 +53,7 @@ pub(crate) fn put_apart(page: &mut Page, by: Difference)
 
 // A spot behind a blank, where there is one.
 fn put_spot(page: &mut Page, spot: Option<usize>)
-    requires { array_string_len page.old + length (spot_field spot) ≤ report_size }
+    requires { HasRoom page.old (spot_field spot) }
     ensures { page.new.bytes ≡ page.old.bytes ++ spot_field spot }
 {
     if let Some(number) = spot {
@@ -63,7 +63,7 @@ fn put_spot(page: &mut Page, spot: Option<usize>)
 
 // The file is refused, with this fault.
 pub(crate) fn put_refused(page: &mut Page, fault: Fault)
-    requires { array_string_len page.old + length (refused_text fault) ≤ report_size }
+    requires { HasRoom page.old (refused_text fault) }
     ensures { page.new.bytes ≡ page.old.bytes ++ refused_text fault }
 {
     page.push_str("REFUSED");

@@ -1,7 +1,7 @@
 // Numbers and line ends, written at the end of the text of a report.
-ghost use Rattle.std.specs.Prelude.{◌≡◌, ◌+◌, ◌≤◌, ◌++◌, length, codes, decimal};
-ghost use Rattle.arrayvec.specs.ArrayString.{array_string_len};
-ghost use Rattle.report.specs.Text.{report_size, field};
+ghost use Rattle.std.specs.Prelude.{◌≡◌, ◌++◌, codes, decimal};
+ghost use Rattle.report.specs.Text.{field};
+ghost use Rattle.report.specs.Pages.{HasRoom};
 
 use crate::file_report::REPORT_SIZE;
 use arrayvec::ArrayString;
@@ -12,7 +12,7 @@ pub(crate) type Page = ArrayString<REPORT_SIZE>;
 
 // A number in decimal, with no zero in front.
 pub(crate) fn put_number(page: &mut Page, n: usize)
-    requires { array_string_len page.old + length (decimal n) ≤ report_size }
+    requires { HasRoom page.old (decimal n) }
     ensures { page.new.bytes ≡ page.old.bytes ++ decimal n }
 {
     let mut buffer = Buffer::new();
@@ -21,7 +21,7 @@ pub(crate) fn put_number(page: &mut Page, n: usize)
 
 // A number behind a blank.
 pub(crate) fn put_field(page: &mut Page, n: usize)
-    requires { array_string_len page.old + length (field n) ≤ report_size }
+    requires { HasRoom page.old (field n) }
     ensures { page.new.bytes ≡ page.old.bytes ++ field n }
 {
     page.push_str(" ");
@@ -30,7 +30,7 @@ pub(crate) fn put_field(page: &mut Page, n: usize)
 
 // The end of a line.
 pub(crate) fn end_line(page: &mut Page)
-    requires { array_string_len page.old + 1 ≤ report_size }
+    requires { HasRoom page.old (codes "\n") }
     ensures { page.new.bytes ≡ page.old.bytes ++ codes "\n" }
 {
     page.push_str("\n");
