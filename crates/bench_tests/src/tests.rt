@@ -47,7 +47,11 @@ fn full_crews_move(rt: HostRuntime) {
     assert_eq!(rt; bench.count(0, 0), Ok(0));
 }
 
-fn is_replayed<N: Net + Drop>(net: N, calls: &[Call], answers: &mut [Answer]) -> bool {
+fn is_replayed<N: Net + Drop>(
+    net: N,
+    calls: &[Call],
+    answers: &mut [Result<Answer, Fault>],
+) -> bool {
     replay(net, calls, answers).is_ok()
 }
 
@@ -71,28 +75,25 @@ fn joined_benches_move(rt: HostRuntime) {
             transition: 5,
         },
     ];
-    let mut answers = [Answer::Tokens(9); 5];
+    let mut answers = [Ok(Answer::Tokens(9)); 5];
     assert!(rt; is_replayed(net, &calls, &mut answers));
-    assert_eq!(rt; answers[0], Answer::Done);
-    assert_eq!(rt; answers[1], Answer::Done);
-    assert_eq!(rt; answers[2], Answer::Tokens(1));
-    assert_eq!(rt;
-        answers[3],
-        Answer::Refused(Fault::plain(Refusal::OutOfRange))
-    );
-    assert_eq!(rt; answers[4], Answer::Tokens(9));
+    assert_eq!(rt; answers[0], Ok(Answer::Done));
+    assert_eq!(rt; answers[1], Ok(Answer::Done));
+    assert_eq!(rt; answers[2], Ok(Answer::Tokens(1)));
+    assert_eq!(rt; answers[3], Err(Fault::plain(Refusal::OutOfRange)));
+    assert_eq!(rt; answers[4], Ok(Answer::Tokens(9)));
 }
 
 // A list with too little room for the answers is refused, and is then as it was.
 #[test]
 fn answers_need_room(rt: HostRuntime) -> Result<(), Fail> {
     let calls = [Call::Count { side: 0, place: 0 }; 2];
-    let mut answers = [Answer::Tokens(9); 1];
+    let mut answers = [Ok(Answer::Tokens(9)); 1];
     match replay(Ring::new(3, 0), &calls, &mut answers) {
         Ok(_) => Err(Fail::new("there is no room")),
         Err(fault) => {
             assert_eq!(rt; fault, Fault::plain(Refusal::ShortList));
-            assert_eq!(rt; answers[0], Answer::Tokens(9));
+            assert_eq!(rt; answers[0], Ok(Answer::Tokens(9)));
             Ok(())
         }
     }

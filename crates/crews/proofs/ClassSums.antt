@@ -1,6 +1,6 @@
 -- Tokens added up class by class, one place after the other.
-use Rattle.std.proofs.Common.{◌≡◌, ℕ, zero, suc, ◌+◌, ◌<◌, ◌≤◌, Bool, true, false, cond, eqb, ◌≢◌, ◌⊎◌, List, length, get_or, take, set, sum, sym, refl, ap, ◌∙◌, inl, inr, arith}
-use Rattle.std.proofs.lemmas.List.{get_or-set_same, get_or-set_other, length-set, length-replicate}
+use Rattle.std.proofs.Common.{◌≡◌, ℕ, zero, suc, ◌+◌, ◌<◌, ◌≤◌, Bool, true, false, cond, eqb, ◌≢◌, ◌⊎◌, List, ◌∷◌, length, get_or, take, drop, set, sum, sym, refl, ap, ◌∙◌, subst, inl, inr, arith}
+use Rattle.std.proofs.lemmas.List.{get_or-set_same, get_or-set_other, length-set, length-replicate, length-drop, drop_more}
 use Rattle.std.proofs.lemmas.List.Sums.{sum_by_more, sum_by-take-le}
 use Rattle.std.proofs.lemmas.Bool.{cases_eq, eq-eqb, ne_eqb}
 use Rattle.net.specs.Lists.{zeros, get_or_zeros}
@@ -37,10 +37,10 @@ pub record SumsGoing (p : ℕ) (cs xs sums : List ℕ) : Type 0 where
   pub whole : length sums ≡ 128
   pub each : (c : ℕ) → c < 128 → get_or sums c 0 ≡ in_class p cs xs c
 
-pub sums_none : (cs xs sums : List ℕ) → sums ≡ zeros 128 → SumsGoing 0 cs xs sums
+sums_none : (cs xs sums : List ℕ) → sums ≡ zeros 128 → SumsGoing 0 cs xs sums
 sums_none cs xs sums e = record { whole = ap length e ∙ length-replicate {A = ℕ} 128 0; each = λ c l. ap (λ zs. get_or zs c 0) e ∙ get_or_zeros 128 c }
 
-pub sums_more : (p : ℕ) (cs xs sums : List ℕ) (k v : ℕ) → k ≡ get_or cs p 0 → k < 128 → v ≡ get_or sums k 0 + get_or xs p 0 → SumsGoing p cs xs sums → SumsGoing (p + 1) cs xs (set sums k v)
+sums_more : (p : ℕ) (cs xs sums : List ℕ) (k v : ℕ) → k ≡ get_or cs p 0 → k < 128 → v ≡ get_or sums k 0 + get_or xs p 0 → SumsGoing p cs xs sums → SumsGoing (p + 1) cs xs (set sums k v)
 sums_more p cs xs sums k v ek l ev g = record {
   whole = length-set sums k v ∙ g.whole;
   each = λ c w. by_class c w (cases_eq c k);
@@ -52,9 +52,62 @@ sums_more p cs xs sums k v ek l ev g = record {
         ∙ omega (arith, ev, g.each k l, in_class_here p cs xs, ap (in_class p cs xs) ek, ap (in_class (p + 1) cs xs) ek, ap (in_class (p + 1) cs xs) e)
     by_class c w (inr ne) = get_or-set_other sums k c v 0 ne ∙ g.each c w ∙ sym (in_class_other p cs xs c (λ e. ne (e ∙ sym ek)))
 
-pub sums_small : (p n : ℕ) (cs xs sums : List ℕ) (k : ℕ) → k ≡ get_or cs p 0 → k < 128 → p < n → n ≤ length xs → SumsGoing p cs xs sums → get_or sums k 0 + get_or xs p 0 ≤ sum xs
-sums_small p n cs xs sums k ek l w h g =
+sums_small : (p : ℕ) (cs xs sums : List ℕ) (k : ℕ) → k ≡ get_or cs p 0 → k < 128 → p < length xs → SumsGoing p cs xs sums → get_or sums k 0 + get_or xs p 0 ≤ sum xs
+sums_small p cs xs sums k ek l w g =
     omega (arith, g.each k l, in_class_here p cs xs, ap (in_class p cs xs) ek, in_class_le (p + 1) cs xs (get_or cs p 0) (omega arith))
+
+-- ## Both lists gone through together
+
+-- the first p entries are counted, and these are left
+pub record Counting (p : ℕ) (cs xs left_cs left_xs sums : List ℕ) : Type 0 where
+  pub within : p ≤ length cs
+  pub classes : left_cs ≡ drop p cs
+  pub counts : left_xs ≡ drop p xs
+  pub going : SumsGoing p cs xs sums
+
+pub counting_none : (cs xs left_cs left_xs sums : List ℕ) → left_cs ≡ cs → left_xs ≡ xs → sums ≡ zeros 128 → Counting 0 cs xs left_cs left_xs sums
+counting_none cs xs left_cs left_xs sums ec ex e = record { within = omega arith; classes = ec; counts = ex; going = sums_none cs xs sums e }
+
+-- the next entry of a list, and what is left behind it
+next_entry : (p : ℕ) (zs : List ℕ) (z : ℕ) (rest : List ℕ) → drop p zs ≡ z ∷ rest → (p < length zs) × (z ≡ get_or zs p 0) × (rest ≡ drop (p + 1) zs)
+next_entry p zs z rest e =
+    let within : p < length zs = omega (arith, ap length e, length-drop p zs) in
+    let whole : z ∷ rest ≡ get_or zs p 0 ∷ drop (p + 1) zs = sym e ∙ drop_more zs p 0 within in
+    (within, cc, cc)
+
+module _ (p : ℕ) (cs xs left_cs left_xs rest_cs rest_xs sums : List ℕ) (class count : ℕ) (g : Counting p cs xs left_cs left_xs sums) (ec : left_cs ≡ class ∷ rest_cs) (ex : left_xs ≡ count ∷ rest_xs) where
+  next_class : (p < length cs) × (class ≡ get_or cs p 0) × (rest_cs ≡ drop (p + 1) cs)
+  next_class = next_entry p cs class rest_cs (sym g.classes ∙ ec)
+
+  next_count : (p < length xs) × (count ≡ get_or xs p 0) × (rest_xs ≡ drop (p + 1) xs)
+  next_count = next_entry p xs count rest_xs (sym g.counts ∙ ex)
+
+  module _ (named : (i : ℕ) → i < length cs → get_or cs i 0 < 128) where
+    pub class_small : class < 128
+    class_small = omega (arith, next_class.1, named p next_class.0)
+
+    pub counting_small : (k : ℕ) → k ≡ class → get_or sums k 0 + count ≤ sum xs
+    counting_small k ek = omega (arith, next_count.1, sums_small p cs xs sums k (ek ∙ next_class.1) (omega (arith, ek, class_small)) next_count.0 g.going)
+
+    pub counting_more : (q k v : ℕ) → q ≡ p + 1 → k ≡ class → v ≡ get_or sums k 0 + count → Counting q cs xs rest_cs rest_xs (set sums k v)
+    counting_more q k v eq ek ev =
+        let more : Counting (p + 1) cs xs rest_cs rest_xs (set sums k v) =
+        record {
+          within = omega (arith, next_class.0);
+          classes = next_class.2;
+          counts = next_count.2;
+          going = sums_more p cs xs sums k v (ek ∙ next_class.1) (omega (arith, ek, class_small)) (omega (arith, ev, next_count.1)) g.going;
+        } in
+        subst (λ (i : ℕ). Counting i cs xs rest_cs rest_xs (set sums k v)) (sym eq) more
+
+-- where one of the two lists has ended, both have
+pub counting_all : (p : ℕ) (cs xs left_cs left_xs sums : List ℕ) → length xs ≡ length cs → (length left_cs ≡ 0) ⊎ (length left_xs ≡ 0) → Counting p cs xs left_cs left_xs sums
+    → (c : ℕ) → c < 128 → get_or sums c 0 ≡ in_class (length cs) cs xs c
+counting_all p cs xs left_cs left_xs sums even end g c l = g.going.each c l ∙ ap (λ (n : ℕ). in_class n cs xs c) (all end)
+  where
+    all : (length left_cs ≡ 0) ⊎ (length left_xs ≡ 0) → p ≡ length cs
+    all (inl e) = omega (arith, g.within, ap length g.classes, length-drop p cs)
+    all (inr e) = omega (arith, g.within, even, ap length g.counts, length-drop p xs)
 
 -- the count of a class at one place more
 pub in_class_more : (n : ℕ) (cs xs : List ℕ) (c : ℕ) → c ≡ get_or cs n 0 → in_class (n + 1) cs xs c ≡ in_class n cs xs c + get_or xs n 0

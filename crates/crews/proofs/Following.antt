@@ -1,5 +1,5 @@
 -- How follow ends: y is the table on its side, z the one across.
-use Rattle.std.proofs.Common.{◌≡◌, ℕ, ◌+◌, ◌-◌, ◌<◌, ◌≤◌, Bool, true, false, cond, eqb, ◌⊎◌, List, ◌++◌, length, get_or, take, is_some, Some, None, sum, Option, sym, refl, ap, ◌∙◌, subst, inl, inr, arith}
+use Rattle.std.proofs.Common.{◌≡◌, ℕ, ◌+◌, ◌-◌, ◌<◌, ◌≤◌, Bool, true, false, cond, eqb, ◌⊎◌, List, ◌++◌, length, get_or, is_some, Some, None, Ok, Err, sum, Option, sym, refl, ap, ◌∙◌, subst, inl, inr, arith}
 use Rattle.std.proofs.lemmas.Bool.{cases_eq}
 use Rattle.net.specs.Meaning.{Meaning, transition, total_of}
 use Rattle.net.specs.Limits.{Lawful}
@@ -16,15 +16,18 @@ use Rattle.crews.specs.Crews.{Crews, on_side, across, both}
 use Rattle.crews.specs.Calls.{not_ready}
 use Rattle.crews.specs.Counting.{DiffersAt, Found}
 use Rattle.crews.specs.Following.{unlike, overfull, followed, FitsBy}
-use Rattle.crews.specs.Tally.{followed_by}
-use Rattle.crews.specs.Shows.{Holds, Shows, Steps, Ready, table_on, with_table}
+use Rattle.crews.specs.Tally.{Step, followed_by}
+use Rattle.crews.specs.Shows.{Holds, Shows, Steps, Ready, LaidOut, table_on, with_table}
 use Rattle.crews.specs.declared.bench.Bench.{Bench}
 use Rattle.crews.specs.declared.crew.Crew.{Crew}
+use Rattle.crews.specs.Verdicts.{ApartBy}
+use Rattle.crews.specs.declared.crewed.Crewed.{Crewed}
 use Rattle.crews.specs.declared.swap.Difference.{Difference}
 use Rattle.crews.specs.declared.call.Call.TheVariants.{Follow}
-use Rattle.crews.specs.declared.call.Answer.TheVariants.{Followed, Refused}
+use Rattle.crews.specs.declared.call.Answer.TheVariants.{Followed}
 use Rattle.crews.proofs.Answering.{fits_from_by, by_from_fits, paired_sum, fits_total, paired_across, some_fits, answered, sum_across}
-use Rattle.crews.proofs.Judging.{judged_alike, judged_apart}
+use Rattle.crews.proofs.Judging.{crews_on, judged_alike, judged_apart}
+use Rattle.crews.proofs.LayingOut.{shown_is}
 use Rattle.crews.proofs.Steps.{stays, free_ready, sum_side, sum_ready, holds_after, same_tokens}
 use Rattle.crews.proofs.Tables.{FrontOf, front_of_holds, front_of_take, holds_sum, holds_fired, shows_side}
 
@@ -58,7 +61,7 @@ shows_both m b b' s x w xs ys l eb hx hw = subst (λ a. Shows m a (both s xs ys)
         let e : s ≡ 1 = omega arith in
         subst (λ (k : ℕ). Shows m (with_table (with_table b k x) (1 - k) w) (both k xs ys)) (sym e) (record { left = hw; right = hx })
 
-pub both_net : {N : Type 0} (b b' : Bench N) (s : ℕ) (x w : Crew) → b' ≡ with_table (with_table b s x) (1 - s) w → b'.net ≡ b.net
+both_net : {N : Type 0} (b b' : Bench N) (s : ℕ) (x w : Crew) → b' ≡ with_table (with_table b s x) (1 - s) w → b'.net ≡ b.net
 both_net {N} b b' s x w eb = ap (λ a. a.net) eb ∙ by_sides (eqb s 0) (eqb (1 - s) 0)
   where
     by_sides : (v v' : Bool)
@@ -72,28 +75,28 @@ both_net {N} b b' s x w eb = ap (λ a. a.net) eb ∙ by_sides (eqb s 0) (eqb (1 
 
 -- ## What the comparison found
 
-pub found_some : (n : ℕ) (cs xs ys : List ℕ) (o : Option Difference) → is_some o ≡ true → Found n cs xs ys o → (d : Difference) × DiffersAt n cs xs ys d
-found_some n cs xs ys (Some d) e f = (d, f)
-found_some n cs xs ys None e f = let z : ◌≡◌ {A = ℕ} 0 1 = cc in absurd (omega arith)
+pub found_some : (x : Crewed) (o : Option Difference) → is_some o ≡ true → Found x o → (d : Difference) × DiffersAt x d
+found_some x (Some d) e f = (d, f)
+found_some x None e f = absurd (cc)
 
-pub found_none : (n : ℕ) (cs xs ys : List ℕ) (o : Option Difference) → is_some o ≡ false → Found n cs xs ys o → Found n cs xs ys None
-found_none n cs xs ys (Some d) e f = let z : ◌≡◌ {A = ℕ} 0 1 = cc in absurd (omega arith)
-found_none n cs xs ys None e f = f
+pub found_none : (x : Crewed) (o : Option Difference) → is_some o ≡ false → Found x o → Found x None
+found_none x (Some d) e f = absurd (cc)
+found_none x None e f = f
 
 -- ## Follow
 
-module _ {N : Type 0} (m : Meaning) (b : Bench N) (s t : ℕ) (y z : Crew) (law : Lawful m) (ready : Ready m b s t y) (ez : z ≡ table_on b (1 - s)) (cs : List ℕ) (classed : ClassedBy m cs) where
-  pub follow_apart : (d : Difference) → DiffersAt m.places cs b.left.counts b.right.counts d → (f : Fault) → f ≡ plain CrewsApart → Steps m b (Follow s t) (Refused f) b
+module _ {N : Type 0} (m : Meaning) (b : Bench N) (s t : ℕ) (y z : Crew) (law : Lawful m) (ready : Ready m b s t y) (ez : z ≡ table_on b (1 - s)) (x : Crewed) (laid : LaidOut m b x) where
+  pub follow_apart : (d : Difference) → DiffersAt x d → (f : Fault) → f ≡ plain CrewsApart → Steps m b (Follow s t) (Err f) b
   follow_apart d at f ef = stays m b (Follow s t) f
       (λ c h. first_back (not_ready m c s t) (unlike m c ++ overfull m c s t) f (free_ready m b s t y law ready c h)
-      (inl ((judged_apart m law cs classed c b.left.counts b.right.counts (front_of_holds _ _ _ h.left) (front_of_holds _ _ _ h.right) d at).unpaired, sym ef)))
+      (inl ((subst (λ a. ApartBy m a d) (shown_is m b x c laid h) (judged_apart m law x laid.places laid.classed d at)).unpaired, sym ef)))
 
-  module _ (level : Found m.places cs b.left.counts b.right.counts None) where
-    paired_by : (c : Crews) → FrontOf m.places b.left.counts c.left → FrontOf m.places b.right.counts c.right → Paired m c.left c.right
-    paired_by c fl fr = (judged_alike m law cs classed c b.left.counts b.right.counts fl fr level).paired
+  module _ (level : Found x None) where
+    paired_here : Paired m x.left.now x.right.now
+    paired_here = (judged_alike m law x laid.places laid.classed level).paired
 
     paired_shown : (c : Crews) → Shows m b c → Paired m c.left c.right
-    paired_shown c h = paired_by c (front_of_holds _ _ _ h.left) (front_of_holds _ _ _ h.right)
+    paired_shown c h = subst (λ a. Paired m a.left a.right) (shown_is m b x c laid h) paired_here
 
     enabled_shown : (c : Crews) → Shows m b c → 0 < get_or (on_side c s) (transition m t).place 0
     enabled_shown c h = omega (arith, ready.token, same_tokens m b s t y law ready c h)
@@ -115,7 +118,7 @@ module _ {N : Type 0} (m : Meaning) (b : Bench N) (s t : ℕ) (y z : Crew) (law 
 
     module _ (f : Fault) (ef : f ≡ plain TooManyTokens) where
       pub follow_full : length y.counts ≡ 128 → (4097 < sum y.counts + total_of (transition m t)) ⊎ (4097 < sum z.counts + total_of (transition m t))
-          → Steps m b (Follow s t) (Refused f) b
+          → Steps m b (Follow s t) (Err f) b
       follow_full whole many = stays m b (Follow s t) f
           (λ c h. first_back (not_ready m c s t) (unlike m c ++ overfull m c s t) f (free_ready m b s t y law ready c h)
           (first_back (unlike m c) (overfull m c s t) f (free_unlike c h) (inl (inl (omega (arith, too_many c h many, sum_ready m b s t y law ready whole, sum_side m b s t y law ready c h)), sym ef))))
@@ -126,15 +129,15 @@ module _ {N : Type 0} (m : Meaning) (b : Bench N) (s t : ℕ) (y z : Crew) (law 
 
     -- ### A transition that fits, whatever stands beyond the places
 
-    module _ (wl : length b.left.counts ≡ 128) (wr : length b.right.counts ≡ 128) where
+    module _ (wl : length b.left.counts ≡ 128) (wr : length b.right.counts ≡ 128) (cs : List ℕ) (classed : ClassedBy m cs) where
       abbrev fronts : Crews
-      fronts = record { left = take m.places b.left.counts; right = take m.places b.right.counts }
+      fronts = crews_on x
 
       front_left : FrontOf m.places b.left.counts fronts.left
-      front_left = front_of_take m.places b.left.counts (omega (arith, law.few_places, wl))
+      front_left = subst (FrontOf m.places b.left.counts) (sym laid.left) (front_of_take m.places b.left.counts (omega (arith, law.few_places, wl)))
 
       front_right : FrontOf m.places b.right.counts fronts.right
-      front_right = front_of_take m.places b.right.counts (omega (arith, law.few_places, wr))
+      front_right = subst (FrontOf m.places b.right.counts) (sym laid.right) (front_of_take m.places b.right.counts (omega (arith, law.few_places, wr)))
 
       front_side : FrontOf m.places y.counts (on_side fronts s)
       front_side = subst (λ x. FrontOf m.places x.counts (on_side fronts s)) (sym ready.is_table) (by_side (eqb s 0))
@@ -154,7 +157,7 @@ module _ {N : Type 0} (m : Meaning) (b : Bench N) (s t : ℕ) (y z : Crew) (law 
       some_answer =
           let place : (transition m t).place < m.places = (law.each t ready.known).place_known in
           let on : 0 < get_or (on_side fronts s) (transition m t).place 0 = omega (arith, ready.token, front_side.at (transition m t).place place) in
-          let (u, f) = some_fits m law fronts s t (paired_by fronts front_left front_right) ready.known on in
+          let (u, f) = some_fits m law fronts s t paired_here ready.known on in
           (u, by_from_fits m law cs classed t u ready.known z.counts (across fronts s) front_across f)
 
       module _ (u : ℕ) (fits : FitsBy m cs z.counts t u) where
@@ -168,7 +171,7 @@ module _ {N : Type 0} (m : Meaning) (b : Bench N) (s t : ℕ) (y z : Crew) (law 
 
     -- ### Accepted
 
-    module _ (u : ℕ) (fits : FitsBy m cs z.counts t u) where
+    module _ (cs : List ℕ) (classed : ClassedBy m cs) (u : ℕ) (fits : FitsBy m cs z.counts t u) where
       fits_shown : (c : Crews) → Shows m b c → Fits m t u (across c s)
       fits_shown c h =
           fits_from_by m law cs classed t u ready.known z.counts (across c s) (front_of_holds m.places z.counts (across c s) (shows_across m b s z c ready.side_known ez h)) fits
@@ -184,15 +187,18 @@ module _ {N : Type 0} (m : Meaning) (b : Bench N) (s t : ℕ) (y z : Crew) (law 
           by_side (inr (v, f, many)) = omega (arith, many, own, sum_across m law c s t (paired_shown c h) ready.known (enabled_shown c h) v f)
 
       pub follow_steps : (b' : Bench N) (x w : Crew) → b' ≡ with_table (with_table b s x) (1 - s) w → x.counts ≡ fired m t y.counts → w.counts ≡ fired m u z.counts
-          → sum (fired m t y.counts) ≤ 4096 → Steps m b (Follow s t) (Followed u) b'
-      follow_steps b' x w eb ex ew few c h =
-          let holds_w : Holds m.places w.counts (fired m u (across c s)) =
-          subst (λ xs. Holds m.places xs (fired m u (across c s))) (sym ew)
-          (holds_fired m u z.counts (across c s) law fits.known (shows_across m b s z c ready.side_known ez h)) in (
-            followed m c s t u,
-            shows_both m b b' s x w (fired m t (on_side c s)) (fired m u (across c s)) ready.side_known eb (holds_after m b s t y law ready x c h ex) holds_w,
-            followed_by s t u
-                (free_append (not_ready m c s t) (unlike m c ++ overfull m c s t) (free_ready m b s t y law ready c h)
-                (free_append (unlike m c) (overfull m c s t) (free_unlike c h) (free_overfull few c h)))
-                (answered m law c s t (paired_shown c h) ready.known (enabled_shown c h) u (fits_shown c h)),
-          )
+          → sum (fired m t y.counts) ≤ 4096 → Steps m b (Follow s t) (Ok (Followed u)) b'
+      follow_steps b' x w eb ex ew few = record { same = both_net b b' s x w eb; leads = λ c h. (followed m c s t u, shown c h, step c h) }
+        where
+          shown : (c : Crews) → Shows m b c → Shows m b' (followed m c s t u)
+          shown c h =
+              shows_both m b b' s x w (fired m t (on_side c s)) (fired m u (across c s)) ready.side_known eb (holds_after m b s t y law ready x c h ex)
+              (subst (λ xs. Holds m.places xs (fired m u (across c s))) (sym ew)
+              (holds_fired m u z.counts (across c s) law fits.known (shows_across m b s z c ready.side_known ez h)))
+
+          step : (c : Crews) → Shows m b c → Step m c (Follow s t) (Ok (Followed u)) (followed m c s t u)
+          step c h =
+              followed_by s t u
+              (free_append (not_ready m c s t) (unlike m c ++ overfull m c s t) (free_ready m b s t y law ready c h)
+              (free_append (unlike m c) (overfull m c s t) (free_unlike c h) (free_overfull few c h)))
+              (answered m law c s t (paired_shown c h) ready.known (enabled_shown c h) u (fits_shown c h))

@@ -3,6 +3,7 @@ pub mod ClassSums
 pub mod Comparing
 pub mod Following
 pub mod Judging
+pub mod LayingOut
 pub mod PutDown
 pub mod Replaying
 pub mod RowCells

@@ -1,5 +1,5 @@
 -- The tokens of a transition put down one place after the other.
-use Rattle.std.proofs.Common.{◌≡◌, ℕ, ◌+◌, ◌-◌, ◌<◌, ◌≤◌, Bool, true, false, leb, List, length, get_or, take, sum, sym, refl, ap, ◌∙◌, arith, take_all, leb-false, leb-true}
+use Rattle.std.proofs.Common.{◌≡◌, ℕ, ◌+◌, ◌-◌, ◌<◌, ◌≤◌, Bool, true, false, leb, ◌⊎◌, List, length, get_or, take, sum, sym, refl, ap, ◌∙◌, inl, inr, arith, take_all, leb-false, leb-true}
 use Rattle.std.proofs.lemmas.List.{length-take}
 use Rattle.std.proofs.lemmas.List.Sums.{sum_by_more, sum_by-take-le}
 use Rattle.net.specs.Meaning.{Meaning, transition, count_of}
@@ -46,11 +46,10 @@ going_more before puts p left counts tokens added g h k e same = record {
 going_all : (before puts : List ℕ) (p left : ℕ) (counts : List ℕ) → Going before puts p left counts → length puts ≤ length before → left ≡ 0 → counts ≡ plus before puts
 going_all before puts p left counts g h e = g.so_far ∙ plus_take_all before puts p h (omega (arith, g.rest, e))
 
--- what one more turn may rely on, in a table of 128 entries
+-- what one more turn may rely on
 pub record Turn (puts : List ℕ) (p left : ℕ) (before counts : List ℕ) : Type 0 where
   pub placed : p < length before
   pub target : p < length puts
-  pub known : p < 128
   pub few : get_or puts p 0 ≤ left
   pub small : get_or counts p 0 + get_or puts p 0 ≤ sum before + sum puts
 
@@ -64,12 +63,21 @@ turn m t p left before counts law known whole g some =
     record {
       placed = omega (arith, target, here);
       target = target;
-      known = omega (arith, target, here, whole);
       few = going_few before puts p left counts g target;
       small = going_small before puts p left counts g counted target;
     }
 
+-- at the last place of the table, or with no token left, all are put down
 pub all_down : (m : Meaning) (t p left : ℕ) (before counts : List ℕ) → Lawful m → t < count_of m → length before ≡ 128
-    → Going before (transition m t).puts p left counts → left ≡ 0 → counts ≡ plus before (transition m t).puts
-all_down m t p left before counts law known whole g e =
-    going_all before (transition m t).puts p left counts g (omega (arith, (law.each t known).targets_known, law.few_places, whole)) e
+    → Going before (transition m t).puts p left counts → (128 ≤ p) ⊎ (left ≡ 0) → counts ≡ plus before (transition m t).puts
+all_down m t p left before counts law known whole g end = going_all before puts p left counts g (omega (arith, few, whole)) (none_left end)
+  where
+    puts : List ℕ
+    puts = (transition m t).puts
+
+    few : length puts ≤ 128
+    few = omega (arith, (law.each t known).targets_known, law.few_places)
+
+    none_left : (128 ≤ p) ⊎ (left ≡ 0) → left ≡ 0
+    none_left (inl over) = omega (arith, g.rest, ap sum (take_all p puts (omega (arith, few, over))))
+    none_left (inr e) = e

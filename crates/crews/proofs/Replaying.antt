@@ -1,7 +1,8 @@
 -- A list of calls performed one after the other.
-use Rattle.std.proofs.Common.{◌≡◌, ℕ, pred, ◌+◌, ◌<◌, ◌≤◌, List, [], ◌∷◌, ◌++◌, length, get_or, take, drop, set, sym, refl, ap, ◌∙◌, subst, arith, take_all}
+use Rattle.std.proofs.Common.{◌≡◌, ℕ, pred, ◌+◌, ◌<◌, ◌≤◌, List, [], ◌∷◌, ◌++◌, length, get_or, take, drop, set, Result, sym, refl, ap, ◌∙◌, subst, arith, take_all}
 use Rattle.std.proofs.lemmas.List.{take_more, take_more_set, drop-set-lt, drop-drop, length-set, length-take, take-append-drop}
 use Rattle.net.specs.Meaning.{Meaning}
+use Rattle.net.specs.declared.refusal.Fault.{Fault}
 use Rattle.crews.specs.Crews.{nobody}
 use Rattle.crews.specs.Tally.{Run, begin, then, events}
 use Rattle.crews.specs.Shows.{Shows, Steps, Extends, Led, Replayed}
@@ -9,16 +10,12 @@ use Rattle.crews.specs.declared.bench.Bench.{Bench}
 use Rattle.crews.specs.declared.call.Call.{Call}
 use Rattle.crews.specs.declared.call.Answer.{Answer}
 
-pub extends : {N : Type 0} (m : Meaning) (b : Bench N) (call : Call) (a : Answer) (b' : Bench N) → Steps m b call a b' → Extends m b call a b'
+pub extends : {N : Type 0} (m : Meaning) (b : Bench N) (call : Call) (a : Result Answer Fault) (b' : Bench N) → Steps m b call a b' → Extends m b call a b'
 extends m b call a b' steps es c run shows =
-    let led = steps c shows in
+    let led = steps.leads c shows in
     (led.0, led.1, then (record { call = call; answer = a }) run led.2)
 
--- a step of a call under another name for the call and its answer
-pub steps_named : {N : Type 0} (m : Meaning) (b b' : Bench N) (call call' : Call) (a a' : Answer) → call' ≡ call → a' ≡ a → Steps m b call a b' → Steps m b call' a' b'
-steps_named m b b' call call' a a' e f steps = subst (λ x. Steps m b x a' b') (sym e) (subst (λ y. Steps m b call y b') (sym f) steps)
-
-pub events_push : (calls : List Call) (answers : List Answer) (c : Call) (a : Answer) → length calls ≡ length answers
+pub events_push : (calls : List Call) (answers : List (Result Answer Fault)) (c : Call) (a : Result Answer Fault) → length calls ≡ length answers
     → events (calls ++ c ∷ []) (answers ++ a ∷ []) ≡ events calls answers ++ record { call = c; answer = a } ∷ []
 events_push [] [] c a e = refl
 events_push [] (r ∷ answers) c a e = absurd (omega (arith, e))
@@ -26,15 +23,15 @@ events_push (d ∷ calls) [] c a e = absurd (omega (arith, e))
 events_push (d ∷ calls) (r ∷ answers) c a e = ap (λ es. record { call = d; answer = r } ∷ es) (events_push calls answers c a (ap pred e))
 
 -- i calls of the list are made, and the answers beyond are as they were
-pub record Going {N : Type 0} (m : Meaning) (calls : List Call) (i : ℕ) (before after : List Answer) (b : Bench N) : Type 0 where
+pub record Going {N : Type 0} (m : Meaning) (calls : List Call) (i : ℕ) (before after : List (Result Answer Fault)) (b : Bench N) : Type 0 where
   pub led : Led m (take i calls) (take i after) b
   pub whole : length after ≡ length before
   pub rest : drop i after ≡ drop i before
 
-pub going_none : {N : Type 0} (m : Meaning) (calls : List Call) (before : List Answer) (b : Bench N) → Shows m b (nobody m.places) → Going m calls 0 before before b
+pub going_none : {N : Type 0} (m : Meaning) (calls : List Call) (before : List (Result Answer Fault)) (b : Bench N) → Shows m b (nobody m.places) → Going m calls 0 before before b
 going_none m calls before b shows = record { led = (nobody m.places, shows, begin); whole = refl; rest = refl }
 
-pub going_more : {N : Type 0} (m : Meaning) (calls : List Call) (i : ℕ) (before after : List Answer) (b b' : Bench N) (d : Call) (a : Answer)
+pub going_more : {N : Type 0} (m : Meaning) (calls : List Call) (i : ℕ) (before after : List (Result Answer Fault)) (b b' : Bench N) (d : Call) (a : Result Answer Fault)
     → i < length calls → length calls ≤ length before → Going m calls i before after b → Extends m b (get_or calls i d) a b' → Going m calls (i + 1) before (set after i a) b'
 going_more m calls i before after b b' d a h room g more =
     let within : i < length after = omega (arith, g.whole) in
@@ -52,7 +49,7 @@ going_more m calls i before after b b' d a h room g more =
       rest = drop-set-lt (i + 1) after i a (omega arith) ∙ sym (drop-drop 1 i after) ∙ ap (drop 1) g.rest ∙ drop-drop 1 i before;
     }
 
-pub going_all : {N : Type 0} (m : Meaning) (calls : List Call) (i : ℕ) (before after : List Answer) (b : Bench N) → length calls ≤ length before → i ≡ length calls
+pub going_all : {N : Type 0} (m : Meaning) (calls : List Call) (i : ℕ) (before after : List (Result Answer Fault)) (b : Bench N) → length calls ≤ length before → i ≡ length calls
     → Going m calls i before after b → Replayed m calls before after b
 going_all m calls i before after b room e g =
     let n = length calls in

@@ -6,8 +6,10 @@ use Rattle.team.specs.Tables.{same}
 use Rattle.team.specs.Pairings.{Cells}
 use Rattle.team.proofs.Sums.{tally_next, tally_grows}
 use Rattle.team.proofs.Greedy.{greedy_is, cell_le, column_within}
+use Rattle.crews.specs.Counting.{places_of}
 use Rattle.crews.specs.Swaps.{swap_at, row_swaps, swaps}
 use Rattle.crews.specs.Pairs.{table_of, RowWritten}
+use Rattle.crews.specs.declared.crewed.Crewed.{Crewed}
 use Rattle.crews.specs.declared.swap.Swap.{Swap}
 use Rattle.net.specs.Lists.{zeros, get_or_zeros}
 use Rattle.crews.proofs.SwapLists.{row_swaps_more, swaps_more, swap_some, swap_none, set_push, swaps_room}
@@ -34,48 +36,48 @@ pub row_all : (n : ℕ) (T : Cells) (x p q start : ℕ) (before : List Swap) (ta
     → RowGoing n T x p q start before taken have after used → RowWritten n T p start before taken after used
 row_all n T x p q start before taken have after used e g = subst (λ k. RowWritten k T p start before taken after used) e (record { columns = g.done; count = g.count; written = g.written })
 
-module _ (n : ℕ) (cs xs ys : List ℕ) (p q start : ℕ) (before : List Swap) (taken : List ℕ) (have : ℕ) (after : List Swap) (used : ℕ) (l : p < n) (k : q < n)
-    (g : RowGoing n (table_of cs xs ys) (get_or xs p 0) p q start before taken have after used) where
+module _ (w : Crewed) (p q start : ℕ) (before : List Swap) (taken : List ℕ) (have : ℕ) (after : List Swap) (used : ℕ) (l : p < places_of w) (k : q < places_of w)
+    (g : RowGoing (places_of w) (table_of w) (get_or w.left.now p 0) p q start before taken have after used) where
   -- the columns before hold no more than there is
-  pub column_small : get_or taken q 0 ≤ get_or ys q 0
+  pub column_small : get_or taken q 0 ≤ get_or w.right.now q 0
   column_small =
-      let T = table_of cs xs ys in
-      omega (arith, g.later q (omega arith) k, tally_grows n p (λ i. T i q) (omega arith), column_within n (same cs) xs ys T (greedy_is n (same cs) xs ys) q k)
+      let T = table_of w in
+      omega (arith, g.later q (omega arith) k, tally_grows (places_of w) p (λ i. T i q) (omega arith), column_within (places_of w) (same w.classes.now) w.left.now w.right.now T (greedy_is (places_of w) (same w.classes.now) w.left.now w.right.now) q k)
 
-  module _ (c : ℕ) (is : c ≡ cond (same cs p q) (min have (get_or ys q 0 - get_or taken q 0)) 0) where
-    pub cell_is : c ≡ table_of cs xs ys p q
+  module _ (c : ℕ) (is : c ≡ cond (same w.classes.now p q) (min have (get_or w.right.now q 0 - get_or taken q 0)) 0) where
+    pub cell_is : c ≡ table_of w p q
     cell_is =
-        is ∙ ap₂ (λ a b. cond (same cs p q) (min a (get_or ys q 0 - b)) 0) g.in_row (g.later q (omega arith) k) ∙ sym (greedy_is n (same cs) xs ys p q l k)
+        is ∙ ap₂ (λ a b. cond (same w.classes.now p q) (min a (get_or w.right.now q 0 - b)) 0) g.in_row (g.later q (omega arith) k) ∙ sym (greedy_is (places_of w) (same w.classes.now) w.left.now w.right.now p q l k)
 
-    cell_small : (table_of cs xs ys p q ≤ get_or xs p 0 - tally q (table_of cs xs ys p)) × (table_of cs xs ys p q ≤ get_or ys q 0 - tally p (λ i. table_of cs xs ys i q))
-    cell_small = cell_le n (same cs) xs ys (table_of cs xs ys) (greedy_is n (same cs) xs ys) p q l k
+    cell_small : (table_of w p q ≤ get_or w.left.now p 0 - tally q (table_of w p)) × (table_of w p q ≤ get_or w.right.now q 0 - tally p (λ i. table_of w i q))
+    cell_small = cell_le (places_of w) (same w.classes.now) w.left.now w.right.now (table_of w) (greedy_is (places_of w) (same w.classes.now) w.left.now w.right.now) p q l k
 
     pub row_enough : c ≤ have
     row_enough = omega (arith, cell_is, cell_small.0, g.in_row)
 
-    pub column_enough : get_or taken q 0 + c ≤ get_or ys q 0
+    pub column_enough : get_or taken q 0 + c ≤ get_or w.right.now q 0
     column_enough = omega (arith, cell_is, cell_small.1, g.later q (omega arith) k, column_small)
 
-    module _ (begun : start ≡ length (swaps (table_of cs xs ys) n p)) (room : 2 * n ≤ length before) where
+    module _ (begun : start ≡ length (swaps (table_of w) (places_of w) p)) (room : 2 * places_of w ≤ length before) where
       pub entry_room : 0 < c → used < length before
       entry_room h =
-          omega (arith, swaps_room n (same cs) xs ys (table_of cs xs ys) (greedy_is n (same cs) xs ys) p q l k (omega (arith, cell_is, h)), g.count, begun)
+          omega (arith, swaps_room (places_of w) (same w.classes.now) w.left.now w.right.now (table_of w) (greedy_is (places_of w) (same w.classes.now) w.left.now w.right.now) p q l k (omega (arith, cell_is, h)), g.count, begun)
 
       module _ (long : q < length taken) where
-        now_done : (j : ℕ) → j < q + 1 → get_or (set taken q (get_or taken q 0 + c)) j 0 ≡ tally (p + 1) (λ i. table_of cs xs ys i j)
+        now_done : (j : ℕ) → j < q + 1 → get_or (set taken q (get_or taken q 0 + c)) j 0 ≡ tally (p + 1) (λ i. table_of w i j)
         now_done = below_more _ _
             (λ j w. get_or-set_other taken q j (get_or taken q 0 + c) 0 (omega arith) ∙ g.done j w)
-            (get_or-set_same taken q (get_or taken q 0 + c) 0 long ∙ omega (arith, tally_next p (λ i. table_of cs xs ys i q), cell_is, g.later q (omega arith) k))
+            (get_or-set_same taken q (get_or taken q 0 + c) 0 long ∙ omega (arith, tally_next p (λ i. table_of w i q), cell_is, g.later q (omega arith) k))
 
-        still_later : (j : ℕ) → q + 1 ≤ j → j < n → get_or (set taken q (get_or taken q 0 + c)) j 0 ≡ tally p (λ i. table_of cs xs ys i j)
+        still_later : (j : ℕ) → q + 1 ≤ j → j < places_of w → get_or (set taken q (get_or taken q 0 + c)) j 0 ≡ tally p (λ i. table_of w i j)
         still_later j w v = get_or-set_other taken q j (get_or taken q 0 + c) 0 (omega arith) ∙ g.later j (omega arith) v
 
-        row_left : have - c ≡ get_or xs p 0 - tally (q + 1) (table_of cs xs ys p)
-        row_left = omega (arith, tally_next q (table_of cs xs ys p), cell_is, g.in_row)
+        row_left : have - c ≡ get_or w.left.now p 0 - tally (q + 1) (table_of w p)
+        row_left = omega (arith, tally_next q (table_of w p), cell_is, g.in_row)
 
-        pub row_kept : c ≤ 0 → RowGoing n (table_of cs xs ys) (get_or xs p 0) p (q + 1) start before (set taken q (get_or taken q 0 + c)) (have - c) after used
+        pub row_kept : c ≤ 0 → RowGoing (places_of w) (table_of w) (get_or w.left.now p 0) p (q + 1) start before (set taken q (get_or taken q 0 + c)) (have - c) after used
         row_kept none =
-            let T = table_of cs xs ys in
+            let T = table_of w in
             let same_row : row_swaps T p (q + 1) ≡ row_swaps T p q =
             row_swaps_more T p q ∙ ap (λ es. row_swaps T p q ++ es) (swap_none T p q (omega (arith, cell_is, none))) ∙ append-nil (row_swaps T p q) in
             record {
@@ -87,9 +89,9 @@ module _ (n : ℕ) (cs xs ys : List ℕ) (p q start : ℕ) (before : List Swap) 
             }
 
         pub row_pushed : 0 < c → (e : Swap) → e ≡ record { left = p; right = q; count = c }
-            → RowGoing n (table_of cs xs ys) (get_or xs p 0) p (q + 1) start before (set taken q (get_or taken q 0 + c)) (have - c) (set after used e) (used + 1)
+            → RowGoing (places_of w) (table_of w) (get_or w.left.now p 0) p (q + 1) start before (set taken q (get_or taken q 0 + c)) (have - c) (set after used e) (used + 1)
         row_pushed some e is_entry =
-            let T = table_of cs xs ys in
+            let T = table_of w in
             let front = take start before ++ row_swaps T p q in
             let entry : swap_at T p q ≡ e ∷ [] =
             swap_some T p q (omega (arith, cell_is, some)) ∙ ap (λ (v : ℕ). record { left = p; right = q; count = v } ∷ []) (sym cell_is) ∙ ap (λ s. s ∷ []) (sym is_entry) in

@@ -4,10 +4,11 @@ use Rattle.team.specs.Below.{tally}
 use Rattle.team.specs.Tables.{same}
 use Rattle.team.specs.Pairings.{Cells, greedy}
 use Rattle.crews.specs.Swaps.{row_swaps}
+use Rattle.crews.specs.declared.crewed.Crewed.{Crewed}
 use Rattle.crews.specs.declared.swap.Swap.{Swap}
 
-abbrev pub table_of : List ℕ → List ℕ → List ℕ → Cells
-table_of classes left right = greedy (same classes) left right
+abbrev pub table_of : Crewed → Cells
+table_of x = greedy (same x.classes.now) x.left.now x.right.now
 
 -- Row p is written from entry `start` on, and the tokens on right places that it takes are taken.
 pub record RowWritten (n : ℕ) (T : Cells) (p start : ℕ) (before : List Swap) (taken : List ℕ) (after : List Swap) (used : ℕ) : Type 0 where

@@ -1,19 +1,23 @@
 -- The crews that a bench holds, and what a call on a bench does to them.
 use Rattle.std.specs.Prelude.{◌≡◌, ℕ, ◌-◌, ◌<◌, ◌≤◌, cond, List, [], ◌∷◌, ◌++◌, length, take, drop, Ok, Err, Result, ◌==◌, slice_index}
+use Rattle.std.specs.Result.{result_map_both}
 use Rattle.net.specs.Meaning.{Meaning, transition, count_of}
 use Rattle.net.specs.Limits.{most_places}
 use Rattle.net.specs.Lists.{zeros}
 use Rattle.net.specs.Refusals.{when, First}
 use Rattle.net.specs.declared.refusal.Refusal.TheVariants.{ShortList}
 use Rattle.net.specs.declared.refusal.Fault.{Fault}
+use Rattle.team.specs.Classes.{ClassedBy}
 use Rattle.crews.specs.Crews.{Crews}
+use Rattle.crews.specs.Counting.{places_of}
 use Rattle.crews.specs.Calls.{not_ready}
 use Rattle.crews.specs.Tally.{Step, Event, Run, events}
 use Rattle.crews.specs.declared.bench.Bench.{Bench}
 use Rattle.crews.specs.declared.crew.Crew.{Crew}
+use Rattle.crews.specs.declared.crewed.Crewed.{Crewed}
 use Rattle.crews.specs.declared.call.Call.{Call}
 use Rattle.crews.specs.declared.call.Answer.{Answer}
-use Rattle.crews.specs.declared.call.Answer.TheVariants.{Done, Tokens, Followed, Alike, Apart, Refused}
+use Rattle.crews.specs.declared.call.Answer.TheVariants.{Alike, Apart}
 use Rattle.crews.specs.declared.swap.Swap.{Swap}
 use Rattle.crews.specs.declared.swap.Verdict.{Verdict}
 use Rattle.crews.specs.declared.swap.Verdict.TheVariants.{Alike as VerdictAlike, Apart as VerdictApart}
@@ -28,6 +32,13 @@ pub record Shows {N : Type 0} (m : Meaning) (b : Bench N) (c : Crews) : Type 0 w
   pub left : Holds m.places b.left.counts c.left
   pub right : Holds m.places b.right.counts c.right
 
+-- The two crews of b on the places of its net, with the class of each place.
+pub record LaidOut {N : Type 0} (m : Meaning) (b : Bench N) (x : Crewed) : Type 0 where
+  pub places : places_of x ≡ m.places
+  pub classed : ClassedBy m x.classes.now
+  pub left : x.left.now ≡ take m.places b.left.counts
+  pub right : x.right.now ≡ take m.places b.right.counts
+
 -- the table on side s, and the bench with another in its place
 abbrev pub table_on : {N : Type 0} → Bench N → ℕ → Crew
 table_on b s = cond (s == 0) b.left b.right
@@ -35,9 +46,10 @@ table_on b s = cond (s == 0) b.left b.right
 abbrev pub with_table : {N : Type 0} → Bench N → ℕ → Crew → Bench N
 with_table b s x = cond (s == 0) (record { net = b.net; left = x; right = b.right }) (record { net = b.net; left = b.left; right = x })
 
--- from the crews that b holds the call is answered so, and leads to those that b' holds
-abbrev pub Steps : {N : Type 0} → Meaning → Bench N → Call → Answer → Bench N → Type 0
-Steps m b call a b' = (c : Crews) → Shows m b c → (d : Crews) × Shows m b' d × Step m c call a d
+-- From the crews that b holds the call is answered so, and leads to those that b' holds. Its net stays as it was.
+pub record Steps {N : Type 0} (m : Meaning) (b : Bench N) (call : Call) (a : Result Answer Fault) (b' : Bench N) : Type 0 where
+  pub same : b'.net ≡ b.net
+  pub leads : (c : Crews) → Shows m b c → (d : Crews) × Shows m b' d × Step m c call a d
 
 -- The table on side s with a token on the place of t, or the first of the reasons that there is none.
 pub record Ready {N : Type 0} (m : Meaning) (b : Bench N) (s t : ℕ) (y : Crew) : Type 0 where
@@ -50,45 +62,36 @@ abbrev pub ReadyOr : {N : Type 0} → Meaning → Bench N → ℕ → ℕ → Re
 ReadyOr m b s t (Ok y) = Ready m b s t y
 ReadyOr m b s t (Err f) = (c : Crews) → Shows m b c → First (not_ready m c s t) f
 
--- the answers of the bench's methods
-abbrev pub done_or : Result (Unit {0}) Fault → Answer
-done_or (Ok _) = Done
-done_or (Err f) = Refused f
+-- what a call answers, from what the bench's method for it answers
+abbrev pub answer_of : {T : Type 0} → (T → Answer) → Result T Fault → Result Answer Fault
+answer_of f r = result_map_both f (λ e. e) r
 
-abbrev pub tokens_or : Result ℕ Fault → Answer
-tokens_or (Ok k) = Tokens k
-tokens_or (Err f) = Refused f
-
-abbrev pub followed_or : Result ℕ Fault → Answer
-followed_or (Ok u) = Followed u
-followed_or (Err f) = Refused f
-
-abbrev pub said_or : Result Verdict Fault → List Swap → Answer
-said_or (Ok (VerdictAlike used)) entries = Alike (record { entries = entries; used = used })
-said_or (Ok (VerdictApart d)) entries = Apart d
-said_or (Err f) entries = Refused f
+-- what a verdict answers, with the list that the comparison wrote into
+abbrev pub verdict_answer : List Swap → Verdict → Answer
+verdict_answer entries (VerdictAlike used) = Alike (record { entries = entries; used = used })
+verdict_answer entries (VerdictApart d) = Apart d
 
 -- whatever events led to the crews that b holds, with this one they lead to those that b' holds
-abbrev pub Extends : {N : Type 0} → Meaning → Bench N → Call → Answer → Bench N → Type 0
+abbrev pub Extends : {N : Type 0} → Meaning → Bench N → Call → Result Answer Fault → Bench N → Type 0
 Extends m b call a b' =
     (es : List Event) (c : Crews) → Run m es c → Shows m b c
     → (d : Crews) × Shows m b' d × Run m (es ++ record { call = call; answer = a } ∷ []) d
 
 -- the calls with their answers lead from empty crews to those that b holds
-abbrev pub Led : {N : Type 0} → Meaning → List Call → List Answer → Bench N → Type 0
+abbrev pub Led : {N : Type 0} → Meaning → List Call → List (Result Answer Fault) → Bench N → Type 0
 Led m calls answers b = (d : Crews) × Shows m b d × Run m (events calls answers) d
 
 -- All calls were made: their answers stand at the front of the list, and the rest of it is as it was.
-pub record Replayed {N : Type 0} (m : Meaning) (calls : List Call) (before after : List Answer) (b : Bench N) : Type 0 where
+pub record Replayed {N : Type 0} (m : Meaning) (calls : List Call) (before after : List (Result Answer Fault)) (b : Bench N) : Type 0 where
   pub room : length calls ≤ length before
   pub led : Led m calls (take (length calls) after) b
   pub rest : after ≡ take (length calls) after ++ drop (length calls) before
 
 -- Refused, for want of room for the answers: the list is as it was.
-pub record Roomless (calls : List Call) (before after : List Answer) (f : Fault) : Type 0 where
+pub record Roomless (calls : List Call) (before after : List (Result Answer Fault)) (f : Fault) : Type 0 where
   pub first : First (when ShortList (length before < length calls) ∷ []) f
   pub same : after ≡ before
 
-abbrev pub ReplayedOr : {N : Type 0} → Meaning → List Call → List Answer → List Answer → Result (Bench N) Fault → Type 0
+abbrev pub ReplayedOr : {N : Type 0} → Meaning → List Call → List (Result Answer Fault) → List (Result Answer Fault) → Result (Bench N) Fault → Type 0
 ReplayedOr m calls before after (Ok b) = Replayed m calls before after b
 ReplayedOr m calls before after (Err f) = Roomless calls before after f

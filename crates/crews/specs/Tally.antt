@@ -1,5 +1,5 @@
 -- The tally: what calls and answers make of two crews, empty at first.
-use Rattle.std.specs.Prelude.{ℕ, List, [], ◌∷◌, ◌++◌, take, slice_index}
+use Rattle.std.specs.Prelude.{ℕ, List, [], ◌∷◌, ◌++◌, take, Ok, Err, Result, slice_index}
 use Rattle.net.specs.Meaning.{Meaning}
 use Rattle.net.specs.Markings.{more, fewer, fired}
 use Rattle.net.specs.Refusals.{First, Free}
@@ -13,26 +13,26 @@ use Rattle.crews.specs.declared.swap.Difference.{Difference}
 use Rattle.crews.specs.declared.call.Call.{Call}
 use Rattle.crews.specs.declared.call.Call.TheVariants.{Put, Take, Fire, Follow, Count, Compare}
 use Rattle.crews.specs.declared.call.Answer.{Answer}
-use Rattle.crews.specs.declared.call.Answer.TheVariants.{Done, Tokens, Followed, Alike, Apart, Refused}
+use Rattle.crews.specs.declared.call.Answer.TheVariants.{Done, Tokens, Followed, Alike, Apart}
 
 -- At the crews c the call is answered so, and then the crews are d. A call that meets a reason is refused by the first, and changes nothing.
-pub data Step (m : Meaning) (c : Crews) : Call → Answer → Crews → Type 0 where
-  refused : {call : Call} (f : Fault) → First (Meets m c call) f → Step m c call (Refused f) c
-  put : (s p k : ℕ) → Free (Meets m c (Put s p k)) → Step m c (Put s p k) Done (with_side c s (more (on_side c s) p k))
-  taken : (s p k : ℕ) → Free (Meets m c (Take s p k)) → Step m c (Take s p k) Done (with_side c s (fewer (on_side c s) p k))
-  moved : (s t : ℕ) → Free (Meets m c (Fire s t)) → Step m c (Fire s t) Done (with_side c s (fired m t (on_side c s)))
-  followed_by : (s t u : ℕ) → Free (Meets m c (Follow s t)) → AnsweredBy m c s t u → Step m c (Follow s t) (Followed u) (followed m c s t u)
-  alike : (room : ℕ) (l : SwapList) → Free (Meets m c (Compare room)) → AlikeBy m c (take l.used l.entries) → Step m c (Compare room) (Alike l) c
-  apart : (room : ℕ) (d : Difference) → Free (Meets m c (Compare room)) → ApartBy m c d → Step m c (Compare room) (Apart d) c
-  counted : (s p : ℕ) → Free (Meets m c (Count s p)) → Step m c (Count s p) (Tokens (slice_index (on_side c s) p)) c
+pub data Step (m : Meaning) (c : Crews) : Call → Result Answer Fault → Crews → Type 0 where
+  refused : {call : Call} (f : Fault) → First (Meets m c call) f → Step m c call (Err f) c
+  put : (s p k : ℕ) → Free (Meets m c (Put s p k)) → Step m c (Put s p k) (Ok Done) (with_side c s (more (on_side c s) p k))
+  taken : (s p k : ℕ) → Free (Meets m c (Take s p k)) → Step m c (Take s p k) (Ok Done) (with_side c s (fewer (on_side c s) p k))
+  moved : (s t : ℕ) → Free (Meets m c (Fire s t)) → Step m c (Fire s t) (Ok Done) (with_side c s (fired m t (on_side c s)))
+  followed_by : (s t u : ℕ) → Free (Meets m c (Follow s t)) → AnsweredBy m c s t u → Step m c (Follow s t) (Ok (Followed u)) (followed m c s t u)
+  alike : (room : ℕ) (l : SwapList) → Free (Meets m c (Compare room)) → AlikeBy m c (take l.used l.entries) → Step m c (Compare room) (Ok (Alike l)) c
+  apart : (room : ℕ) (d : Difference) → Free (Meets m c (Compare room)) → ApartBy m c d → Step m c (Compare room) (Ok (Apart d)) c
+  counted : (s p : ℕ) → Free (Meets m c (Count s p)) → Step m c (Count s p) (Ok (Tokens (slice_index (on_side c s) p))) c
 
 -- A call and its answer.
 pub record Event : Type 0 where
   pub call : Call
-  pub answer : Answer
+  pub answer : Result Answer Fault
 
 -- the calls in order, each with its answer
-abbrev pub events : List Call → List Answer → List Event
+abbrev pub events : List Call → List (Result Answer Fault) → List Event
 events [] answers = []
 events (c ∷ calls) [] = []
 events (c ∷ calls) (a ∷ answers) = record { call = c; answer = a } ∷ events calls answers

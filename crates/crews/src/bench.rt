@@ -5,10 +5,12 @@ ghost use Rattle.net.specs.Refusals.{Tried};
 ghost use Rattle.team.specs.Classes.{ClassedBy};
 ghost use Rattle.crews.specs.Crews.{nobody};
 ghost use Rattle.crews.specs.Calls.{unknown};
-ghost use Rattle.crews.specs.Shows.{Shows, Steps, ReadyOr, table_on, with_table, done_or, tokens_or};
+ghost use Rattle.crews.specs.Shows.{Shows, Steps, ReadyOr, LaidOut, table_on, with_table, answer_of};
 ghost use Rattle.crews.specs.declared.call.Call.TheVariants.{Put, Take, Fire, Count};
+ghost use Rattle.crews.specs.declared.call.Answer.TheVariants.{Done, Tokens};
 
 use crate::crew::Crew;
+use crate::crewed::Crewed;
 use classing::{ClassTable, Partition};
 use net::{Fault, Net, Refusal};
 
@@ -35,7 +37,7 @@ impl<N: Net> Bench<N> {
 
     // How many tokens the crew on a side has on a place.
     pub fn count(&self, side: usize, place: usize) -> Result<u16, Fault>
-        ensures { Steps (N.Net.meaning self.now.net) self.now (Count side place) (tokens_or result) self.now }
+        ensures { Steps (N.Net.meaning self.now.net) self.now (Count side place) (answer_of Tokens result) self.now }
     {
         self.knows_place(side, place)?;
         Ok(self.crew(side).at(place))
@@ -43,8 +45,7 @@ impl<N: Net> Bench<N> {
 
     // Puts tokens of a side on a place.
     pub fn put(&mut self, side: usize, place: usize, count: usize) -> Result<(), Fault>
-        ensures same { self.new.net ≡ self.old.net }
-        ensures steps { Steps (N.Net.meaning self.old.net) self.old (Put side place count) (done_or result) self.new }
+        ensures { Steps (N.Net.meaning self.old.net) self.old (Put side place count) (answer_of (λ _. Done) result) self.new }
     {
         self.knows_place(side, place)?;
         let mut crew = self.crew(side);
@@ -58,8 +59,7 @@ impl<N: Net> Bench<N> {
 
     // Takes tokens of a side from a place.
     pub fn take(&mut self, side: usize, place: usize, count: usize) -> Result<(), Fault>
-        ensures same { self.new.net ≡ self.old.net }
-        ensures steps { Steps (N.Net.meaning self.old.net) self.old (Take side place count) (done_or result) self.new }
+        ensures { Steps (N.Net.meaning self.old.net) self.old (Take side place count) (answer_of (λ _. Done) result) self.new }
     {
         self.knows_place(side, place)?;
         let mut crew = self.crew(side);
@@ -73,8 +73,7 @@ impl<N: Net> Bench<N> {
 
     // Fires a transition on a side: a token leaves the transition's place, and the tokens that it puts down come.
     pub fn fire(&mut self, side: usize, transition: usize) -> Result<(), Fault>
-        ensures same { self.new.net ≡ self.old.net }
-        ensures steps { Steps (N.Net.meaning self.old.net) self.old (Fire side transition) (done_or result) self.new }
+        ensures { Steps (N.Net.meaning self.old.net) self.old (Fire side transition) (answer_of (λ _. Done) result) self.new }
     {
         let mut crew = self.ready(side, transition)?;
         if usize::from(self.net.total(transition)) > crew.room() + 1 {
@@ -102,6 +101,19 @@ impl<N: Net> Bench<N> {
         ensures { ClassedBy (N.Net.meaning self.now.net) result.classes }
     {
         Partition::of(&self.net).table
+    }
+
+    // The two crews, on the net's places and by their classes.
+    pub(crate) fn crewed<'a>(&'a self, table: &'a ClassTable) -> Crewed<'a>
+        requires { ClassedBy (N.Net.meaning self.now.net) table.now.classes }
+        ensures { LaidOut (N.Net.meaning self.now.net) self.now result }
+    {
+        let places = self.net.places();
+        Crewed {
+            classes: &table.classes[..places],
+            left: &self.left.counts[..places],
+            right: &self.right.counts[..places],
+        }
     }
 
     // Refuses a side or a place that there is not.

@@ -1,6 +1,5 @@
 // The calls of the bench as values, and what they answer.
 use crate::{Difference, SwapList};
-use net::Fault;
 
 // A call with its arguments. Any number may stand there: what the bench does not know, it refuses.
 #[derive(Clone, Copy, PartialEq, Eq, Debug)]
@@ -33,9 +32,10 @@ pub enum Call {
     },
 }
 
+// What an accepted call answers. A refused one answers the fault, and leaves the bench as it was.
 #[derive(Clone, Copy, PartialEq, Eq, Debug)]
 pub enum Answer {
-    // the call was accepted
+    // there is nothing more to say
     Done,
     // how many tokens there are
     Tokens(u16),
@@ -45,6 +45,4 @@ pub enum Answer {
     Alike(SwapList),
     // the crews are apart, and here they differ
     Apart(Difference),
-    // the call was refused, and the bench is as it was
-    Refused(Fault),
 }

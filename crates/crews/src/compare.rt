@@ -1,8 +1,6 @@
 // Comparing the two crews of a bench.
 ghost use Rattle.crews.specs.Compares.{Compared};
 
-use crate::counting::difference;
-use crate::pairing::pair;
 use crate::{Bench, Swap, Verdict};
 use net::{Fault, Net, Refusal};
 
@@ -11,17 +9,15 @@ impl<N: Net> Bench<N> {
     pub fn compare(&self, list: &mut [Swap]) -> Result<Verdict, Fault>
         ensures { Compared (N.Net.meaning self.now.net) self.now list.old list.new result }
     {
-        let places = self.net.places();
-        if list.len() < 2 * places {
+        if list.len() < 2 * self.net.places() {
             return Err(Fault::plain(Refusal::ShortList));
         }
         let table = self.class_table();
-        let left = self.left.counts;
-        let right = self.right.counts;
-        match difference(places, &table.classes, &left, &right) {
+        let crewed = self.crewed(&table);
+        match crewed.difference() {
             Some(d) => Ok(Verdict::Apart(d)),
             None => {
-                let used = pair(places, &table.classes, &left, &right, list);
+                let used = crewed.pair(list);
                 Ok(Verdict::Alike { used })
             }
         }

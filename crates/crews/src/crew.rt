@@ -85,12 +85,13 @@ impl Crew {
         let total = net.total(transition);
         let mut counts = self.counts;
         let mut left = total;
-        let mut place: usize = 0;
-        while left > 0 {
+        for place in 0..MOST_PLACES {
+            if left == 0 {
+                break;
+            }
             let tokens = net.tokens(transition, place);
             counts[place] += u16::from(tokens);
             left -= tokens;
-            place += 1;
         }
         self.counts = counts;
         self.total += u16::from(total);

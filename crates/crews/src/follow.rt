@@ -1,24 +1,21 @@
 // Following: a transition on one side, and one that fits it across.
 ghost use Rattle.std.specs.Prelude.{◌≡◌};
-ghost use Rattle.crews.specs.Shows.{Steps, followed_or};
+ghost use Rattle.crews.specs.Shows.{Steps, answer_of};
 ghost use Rattle.crews.specs.declared.call.Call.TheVariants.{Follow};
+ghost use Rattle.crews.specs.declared.call.Answer.TheVariants.{Followed};
 
 use crate::Bench;
-use crate::counting::difference;
 use crate::search::answering;
 use net::{Fault, Net, Refusal};
 
 impl<N: Net> Bench<N> {
     // Fires a transition on a side, and one that fits it across, whose number is the answer.
     pub fn follow(&mut self, side: usize, transition: usize) -> Result<usize, Fault>
-        ensures same { self.new.net ≡ self.old.net }
-        ensures steps { Steps (N.Net.meaning self.old.net) self.old (Follow side transition) (followed_or result) self.new }
+        ensures { Steps (N.Net.meaning self.old.net) self.old (Follow side transition) (answer_of Followed result) self.new }
     {
         let mut crew = self.ready(side, transition)?;
         let table = self.class_table();
-        let left = self.left.counts;
-        let right = self.right.counts;
-        if difference(self.net.places(), &table.classes, &left, &right).is_some() {
+        if self.crewed(&table).difference().is_some() {
             return Err(Fault::plain(Refusal::CrewsApart));
         }
         let mut other = self.crew(1 - side);

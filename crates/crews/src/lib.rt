@@ -6,6 +6,7 @@ mod call;
 mod compare;
 mod counting;
 mod crew;
+mod crewed;
 mod follow;
 mod pairing;
 mod runs;

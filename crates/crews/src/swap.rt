@@ -7,7 +7,7 @@ use net::MOST_PLACES;
 pub const MOST_SWAPS: usize = 2 * MOST_PLACES;
 
 // One entry of a swap list: so many modules on a left place are replaced by as many on a right place.
-#[derive(Clone, Copy, PartialEq, Eq, Debug)]
+#[derive(Clone, Copy, PartialEq, Eq, Debug, Default)]
 pub struct Swap {
     pub left: u8,
     pub right: u8,
@@ -26,15 +26,8 @@ impl SwapList {
     pub fn swaps(&self) -> &[Swap]
         ensures { result.now ≡ take self.now.used self.now.entries }
     {
-        front(&self.entries, self.used)
+        &self.entries[..self.used.min(MOST_SWAPS)]
     }
-}
-
-// The first entries, or all where there are not so many.
-fn front(entries: &[Swap; MOST_SWAPS], count: usize) -> &[Swap]
-    ensures { result.now ≡ take count entries.now }
-{
-    &entries[..count.min(MOST_SWAPS)]
 }
 
 // A class that holds more tokens of one crew than of the other, with both counts.

@@ -16,7 +16,7 @@ loop-i-preserved g c =
     let inv = c.loop-i.invariant in
     let calls = c.args.calls.now in
     let extends = subst (λ x. Extends (g.N.Net.meaning x) c.loop-i.bench (get_or calls c.loop-i.i (Put 0 0 0)) c.perform.result c.perform.new.bench) inv.0 c.perform.ensures.extends in (
-      c.perform.ensures.same ∙ inv.0,
+      c.perform.ensures.steps.same ∙ inv.0,
       going_more (g.N.Net.meaning c.new-bench.result.net) calls c.loop-i.i c.args.answers.now c.loop-i.answers c.loop-i.bench c.perform.new.bench (Put 0 0 0) c.perform.result
           c.loop-i-test.true c.if-answers-calls.false inv.1 extends,
     )

@@ -1,10 +1,9 @@
-use Rattle.std.proofs.Common.{◌≡◌, ℕ, ◌-◌, ◌++◌, length, sym, refl, ap, ◌∙◌, subst, inl, inr, arith, rules}
+use Rattle.std.proofs.Common.{◌≡◌, ◌-◌, ◌++◌, length, sym, refl, ap, ◌∙◌, inl, inr, arith, rules}
 use Rattle.std.proofs.lemmas.Result.{err_from_is_err_and}
-use Rattle.crews.specs.Counting.{Found}
 use Rattle.crews.specs.Following.{unlike, overfull}
 use Rattle.crews.specs.Shows.{with_table}
 use Rattle.crews.specs.declared.call.Call.TheVariants.{Follow}
-use Rattle.crews.proofs.Following.{found_some, found_none, follow_apart, follow_full, some_answer, sum_answer, follow_steps, both_net}
+use Rattle.crews.proofs.Following.{found_some, found_none, follow_apart, follow_full, some_answer, sum_answer, follow_steps}
 use Rattle.crews.proofs.Steps.{not_ready_steps, sum_ready}
 use Rattle.crews.proofs.bench.Bench.follow.Goals as goal
 use Rattle.crews.proofs.bench.Bench.follow.Goals.{then-total-room-via-then-total-room, then-total-room-via-else-total-room+then-total-room-2}
@@ -16,20 +15,16 @@ returns-in_err-crew g c =
     let s = c.args.side in
     let t = c.args.transition in
     let p = err_from_is_err_and c.from_residual.result c.from_residual.ensures.1 in
-    rw (p.1, p.2) (record { same = refl; steps = not_ready_steps m b (Follow s t) s t (λ x. unlike m x ++ overfull m x s t) _ (λ x. refl) c.in_err-crew.ensures })
+    rw (p.1, p.2) (not_ready_steps m b (Follow s t) s t (λ x. unlike m x ++ overfull m x s t) _ (λ x. refl) c.in_err-crew.ensures)
 
 pub returns-then-is_some : goal.returns-then-is_some
 returns-then-is_some g c =
     let b = c.args.self.now in
     let m = g.N.Net.meaning b.net in
     let cs = c.class_table-table.result.classes in
-    let found = subst (λ (k : ℕ). Found k cs b.left.counts b.right.counts c.difference.result) c.places.ensures c.difference.ensures in
-    let (d, at) = found_some m.places cs b.left.counts b.right.counts c.difference.result (sym c.is_some.ensures ∙ c.if-is_some.true) found in
-    record {
-      same = refl;
-      steps = follow_apart m b c.args.side c.args.transition c.in_ok-crew.crew _ (g.N.Net.lawful b.net) c.in_ok-crew.ensures refl cs c.class_table-table.ensures d at
-          c.plain.result c.plain.ensures;
-    }
+    let (d, at) = found_some c.crewed.result c.difference.result (sym c.is_some.ensures ∙ c.if-is_some.true) c.difference.ensures in
+    follow_apart m b c.args.side c.args.transition c.in_ok-crew.crew _ (g.N.Net.lawful b.net) c.in_ok-crew.ensures refl c.crewed.result c.crewed.ensures d at
+    c.plain.result c.plain.ensures
 
 pub answering-answer-requires : goal.answering-answer-requires
 answering-answer-requires g c =
@@ -38,13 +33,12 @@ answering-answer-requires g c =
     let law = g.N.Net.lawful b.net in
     let cs = c.class_table-table.result.classes in
     let ready = c.in_ok-crew.ensures in
-    let found = subst (λ (k : ℕ). Found k cs b.left.counts b.right.counts c.difference.result) c.places.ensures c.difference.ensures in
-    let level = found_none m.places cs b.left.counts b.right.counts c.difference.result (sym c.is_some.ensures ∙ c.if-is_some.false) found in
+    let level = found_none c.crewed.result c.difference.result (sym c.is_some.ensures ∙ c.if-is_some.false) c.difference.ensures in
     record {
       known = ready.known;
       named = λ p l. omega (arith, l, (c.class_table-table.ensures.lowest p l).most);
-      some = some_answer m b c.args.side c.args.transition c.in_ok-crew.crew c.crew-other.result law ready c.crew-other.ensures cs c.class_table-table.ensures level
-          (search rules) (search rules);
+      some = some_answer m b c.args.side c.args.transition c.in_ok-crew.crew c.crew-other.result law ready c.crew-other.ensures c.crewed.result c.crewed.ensures level
+          (search rules) (search rules) cs c.class_table-table.ensures;
     }
 
 pub fire-requires : goal.fire-requires
@@ -65,11 +59,10 @@ fire-requires-2 g c =
     let cs = c.class_table-table.result.classes in
     let z = c.crew-other.result in
     let fits = c.answering-answer.ensures in
-    let found = subst (λ (k : ℕ). Found k cs b.left.counts b.right.counts c.difference.result) c.places.ensures c.difference.ensures in
-    let level = found_none m.places cs b.left.counts b.right.counts c.difference.result (sym c.is_some.ensures ∙ c.if-is_some.false) found in
+    let level = found_none c.crewed.result c.difference.result (sym c.is_some.ensures ∙ c.if-is_some.false) c.difference.ensures in
     let whole : length z.counts ≡ 128 = search rules in
-    let all = sum_answer m b c.args.side c.args.transition c.in_ok-crew.crew z law c.in_ok-crew.ensures c.crew-other.ensures cs c.class_table-table.ensures level
-    (search rules) (search rules) c.answering-answer.result fits whole in
+    let all = sum_answer m b c.args.side c.args.transition c.in_ok-crew.crew z law c.in_ok-crew.ensures c.crew-other.ensures c.crewed.result c.crewed.ensures level
+    (search rules) (search rules) cs c.class_table-table.ensures c.answering-answer.result fits whole in
     record { known = fits.known; there = fits.token; fits = omega (arith, all, c.if-total-room-2.false, c.room-else-total-room.ensures, c.total.ensures, c.from-total.ensures) }
 
 pub returns : goal.returns
@@ -80,17 +73,13 @@ returns g c =
     let cs = c.class_table-table.result.classes in
     let y = c.in_ok-crew.crew in
     let ready = c.in_ok-crew.ensures in
-    let found = subst (λ (k : ℕ). Found k cs b.left.counts b.right.counts c.difference.result) c.places.ensures c.difference.ensures in
-    let level = found_none m.places cs b.left.counts b.right.counts c.difference.result (sym c.is_some.ensures ∙ c.if-is_some.false) found in
+    let level = found_none c.crewed.result c.difference.result (sym c.is_some.ensures ∙ c.if-is_some.false) c.difference.ensures in
     let whole : length y.counts ≡ 128 = search rules in
     let all = sum_ready m b c.args.side c.args.transition y law ready whole in
     let after = c.replace-2.ensures ∙ ap (λ a. with_table a (1 - c.args.side) c.fire-2.new.self) c.replace.ensures in
-    record {
-      same = both_net b c.replace-2.new.self c.args.side c.fire.new.self c.fire-2.new.self after;
-      steps = follow_steps m b c.args.side c.args.transition y c.crew-other.result law ready c.crew-other.ensures cs c.class_table-table.ensures level
-          c.answering-answer.result c.answering-answer.ensures c.replace-2.new.self c.fire.new.self c.fire-2.new.self after c.fire.ensures c.fire-2.ensures
-          (omega (arith, all, c.if-total-room.false, c.room.ensures, c.total.ensures, c.from-total.ensures));
-    }
+    follow_steps m b c.args.side c.args.transition y c.crew-other.result law ready c.crew-other.ensures c.crewed.result c.crewed.ensures level
+    cs c.class_table-table.ensures c.answering-answer.result c.answering-answer.ensures c.replace-2.new.self c.fire.new.self c.fire-2.new.self after c.fire.ensures c.fire-2.ensures
+    (omega (arith, all, c.if-total-room.false, c.room.ensures, c.total.ensures, c.from-total.ensures))
 
 pub returns-then-total-room : goal.returns-then-total-room
 returns-then-total-room g c =
@@ -100,15 +89,11 @@ returns-then-total-room g c =
     let cs = c.class_table-table.result.classes in
     let y = c.in_ok-crew.crew in
     let ready = c.in_ok-crew.ensures in
-    let found = subst (λ (k : ℕ). Found k cs b.left.counts b.right.counts c.difference.result) c.places.ensures c.difference.ensures in
-    let level = found_none m.places cs b.left.counts b.right.counts c.difference.result (sym c.is_some.ensures ∙ c.if-is_some.false) found in
+    let level = found_none c.crewed.result c.difference.result (sym c.is_some.ensures ∙ c.if-is_some.false) c.difference.ensures in
     let whole : length y.counts ≡ 128 = search rules in
-    let full = follow_full m b c.args.side c.args.transition y c.crew-other.result law ready c.crew-other.ensures cs c.class_table-table.ensures level
+    let full = follow_full m b c.args.side c.args.transition y c.crew-other.result law ready c.crew-other.ensures c.crewed.result c.crewed.ensures level
     c.plain-then-total-room.result c.plain-then-total-room.ensures whole in
-    record {
-      same = refl;
-      steps = elim c.then-total-room.branch [
-        | then-total-room-via-then-total-room w ↦ full (inl (omega (arith, w.if-total-room.true, c.room.ensures, c.total.ensures, c.from-total.ensures)))
-        | then-total-room-via-else-total-room+then-total-room-2 w ↦ full (inr (omega (arith, w.if-total-room-2.true, w.room-else-total-room.ensures, c.total.ensures, c.from-total.ensures)))
-      ];
-    }
+    elim c.then-total-room.branch [
+      | then-total-room-via-then-total-room w ↦ full (inl (omega (arith, w.if-total-room.true, c.room.ensures, c.total.ensures, c.from-total.ensures)))
+      | then-total-room-via-else-total-room+then-total-room-2 w ↦ full (inr (omega (arith, w.if-total-room-2.true, w.room-else-total-room.ensures, c.total.ensures, c.from-total.ensures)))
+    ]

@@ -1,20 +1,20 @@
 use Rattle.std.proofs.Common.{◌<◌, length, refl, arith, rules}
 use Rattle.crews.proofs.RowCells.{row_none, column_small, entry_room, row_kept, row_pushed}
-use Rattle.crews.proofs.pairing.pair_row.Goals as goal
-use Rattle.crews.proofs.pairing.pair_row.Goals.{then-k-gt0, else-k-gt0}
+use Rattle.crews.proofs.crewed.Crewed.pair_row.Goals as goal
+use Rattle.crews.proofs.crewed.Crewed.pair_row.Goals.{then-k-gt0, else-k-gt0}
 
 pub loop-q-init : goal.loop-q-init
-loop-q-init c = row_none c.args.n _ _ c.args.p c.args.start c.args.list.now c.args.taken.now c.requires.columns
+loop-q-init c = row_none _ _ _ c.args.p c.args.start c.args.list.now c.args.taken.now c.requires.columns
 
-pub overflow_sub-right : goal.overflow_sub-right
-overflow_sub-right c =
-    column_small c.args.n c.args.classes.now c.args.left.now c.args.right.now c.args.p c.loop-q.q c.args.start _ c.loop-q.taken c.loop-q.have _ _ c.requires.row
+pub overflow_sub-self : goal.overflow_sub-self
+overflow_sub-self c =
+    column_small c.args.self.now c.args.p c.loop-q.q c.args.start _ c.loop-q.taken c.loop-q.have _ _ c.requires.row
     c.loop-q-test.true c.loop-q.invariant
 
 -- there is room for the entry
 room : (c : goal.Then-k-gt0) → c.loop-q.used < length c.args.list.now
 room c =
-    entry_room c.args.n c.args.classes.now c.args.left.now c.args.right.now c.args.p c.loop-q.q c.args.start _ c.loop-q.taken c.loop-q.have _ _ c.requires.row
+    entry_room c.args.self.now c.args.p c.loop-q.q c.args.start _ c.loop-q.taken c.loop-q.have _ _ c.requires.row
     c.loop-q-test.true c.loop-q.invariant c.cell-k.result c.cell-k.ensures c.requires.begun c.requires.room c.if-k-gt0.true
 
 pub offset_bounds-list-used : goal.offset_bounds-list-used
@@ -30,9 +30,9 @@ pub loop-q-preserved : goal.loop-q-preserved
 loop-q-preserved c =
     elim c.if-k-gt0.branch [
       | then-k-gt0 w ↦ rw (w.list-is, w.used-is)
-          (row_pushed c.args.n c.args.classes.now c.args.left.now c.args.right.now c.args.p c.loop-q.q c.args.start _ c.loop-q.taken c.loop-q.have _ _ c.requires.row
+          (row_pushed c.args.self.now c.args.p c.loop-q.q c.args.start _ c.loop-q.taken c.loop-q.have _ _ c.requires.row
           c.loop-q-test.true c.loop-q.invariant c.cell-k.result c.cell-k.ensures c.requires.begun c.requires.room (search rules) w.if-k-gt0.true _ refl)
       | else-k-gt0 w ↦ rw (w.list-is, w.used-is)
-          (row_kept c.args.n c.args.classes.now c.args.left.now c.args.right.now c.args.p c.loop-q.q c.args.start _ c.loop-q.taken c.loop-q.have _ _ c.requires.row
+          (row_kept c.args.self.now c.args.p c.loop-q.q c.args.start _ c.loop-q.taken c.loop-q.have _ _ c.requires.row
           c.loop-q-test.true c.loop-q.invariant c.cell-k.result c.cell-k.ensures c.requires.begun c.requires.room (search rules) w.if-k-gt0.false)
     ]
