@@ -57,11 +57,7 @@ pub fn report(bytes: &[u8], out: &mut [u8]) -> Result<usize, Fault>
     if out.len() < REPORT_SIZE {
         return Err(Fault::plain(Refusal::ShortList));
     }
-    let mut entries = [Swap {
-        left: 0,
-        right: 0,
-        count: 0,
-    }; MOST_SWAPS];
+    let mut entries = [Swap::default(); MOST_SWAPS];
     let judged = judge(bytes, &mut entries);
     let mut page = Page::new();
     put_judged(&mut page, entries, judged);

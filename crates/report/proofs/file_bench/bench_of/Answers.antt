@@ -14,7 +14,7 @@ loop-k-preserved c =
     elim c.match-token_record.branch [
       | in-Some w ↦
           let told : PutBy bytes k (Some w.in-Some.tokens) = rw c.new-net.ensures at (w.in-Some.ensures.crews inside) in
-          let steps = simp (ap (λ n. n.bytes.now) inv.same, c.new-net.ensures) at w.put.ensures.steps in
+          let steps = simp (ap (λ n. n.bytes.now) inv.same, c.new-net.ensures) at w.put.ensures in
           rw w.bench-is (record { same = w.put.ensures.same ∙ inv.same; shows = crews_more bytes k w.in-Some.tokens _ _ _ told steps inv.shows })
       | in_default w ↦
           let told : PutBy bytes k None = rw c.new-net.ensures at (w.in_default.ensures.crews inside) in
