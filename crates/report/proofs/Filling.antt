@@ -1,5 +1,5 @@
 -- The tokens of a file, put on a bench record by record.
-use Rattle.std.proofs.Common.{◌≡◌, ℕ, zero, suc, ◌+◌, ◌≤◌, cond, eqb, List, [], ◌∷◌, map, Some, None, sum, sym, refl, ap, ◌∙◌, subst, ap₂, inl, inr, arith}
+use Rattle.std.proofs.Common.{◌≡◌, ℕ, zero, suc, ◌+◌, ◌≤◌, cond, eqb, List, [], ◌∷◌, map, Some, None, Result, sum, sym, refl, ap, ◌∙◌, subst, ap₂, inl, inr, arith}
 use Rattle.std.specs.List.{range_with_len}
 use Rattle.net.specs.Meaning.{Meaning}
 use Rattle.net.specs.Limits.{most_tokens}
@@ -55,17 +55,17 @@ free_first (w ∷ rows) f free (inl (met, e)) = free.0 met
 free_first (w ∷ rows) f free (inr (unmet, first)) = free_first rows f free.1 first
 
 -- a put that meets no reason to be refused is done
-put_done : {m : Meaning} {c : Crews} {s p n : ℕ} {a : Answer} {d : Crews} → Free (Meets m c (Put s p n)) → Step m c (Put s p n) a d → d ≡ with_more c s p n
+put_done : {m : Meaning} {c : Crews} {s p n : ℕ} {a : Result Answer Fault} {d : Crews} → Free (Meets m c (Put s p n)) → Step m c (Put s p n) a d → d ≡ with_more c s p n
 put_done {m} {c} {s} {p} {n} free (refused f first) = absurd (free_first (Meets m c (Put s p n)) f free first)
 put_done free (put s p n _) = refl
 
 -- a record that puts tokens, on a bench that holds the crews of the records before
-pub crews_more : {N : Type 0} (bytes : List ℕ) (k : ℕ) (t : Tokens) (b b' : Bench N) (a : Answer) → PutBy bytes k (Some t)
+pub crews_more : {N : Type 0} (bytes : List ℕ) (k : ℕ) (t : Tokens) (b b' : Bench N) (a : Result Answer Fault) → PutBy bytes k (Some t)
     → Steps (net_of bytes) b (Put t.side t.place t.count) a b' → Shows (net_of bytes) b (crews_after bytes k) → Shows (net_of bytes) b' (crews_after bytes (k + 1))
 crews_more bytes k t b b' a p steps shows =
     let m = net_of bytes in
     let c = crews_after bytes k in
-    let (d, shown, step) = steps c shows in
+    let (d, shown, step) = steps.leads c shows in
     let light = added_light bytes k t.side t.place t.count p.lawful.side_known p.next p.light in
     let free : Free (Meets m c (Put t.side t.place t.count)) =
     ((λ h. omega (arith, h, p.lawful.side_known)), ((λ h. omega (arith, h, p.lawful.place_known)), ((λ h. omega (arith, h, light)), tt))) in

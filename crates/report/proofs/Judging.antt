@@ -1,5 +1,5 @@
 -- The report that a comparison gives, and that it fits.
-use Rattle.std.proofs.Common.{◌≡◌, ℕ, zero, suc, ◌*◌, ◌^◌, ◌<◌, ◌≤◌, Bool, true, false, cond, List, ◌++◌, length, get_or, take, drop, IfSome, Some, Ok, Err, sum, Option, Result, sym, ap, ◌∙◌, subst, inl, inr, arith}
+use Rattle.std.proofs.Common.{◌≡◌, ℕ, zero, suc, ◌*◌, ◌^◌, ◌<◌, ◌≤◌, Bool, true, cond, List, ◌++◌, length, get_or, take, drop, IfSome, Some, Ok, Err, sum, Option, Result, sym, ap, ◌∙◌, subst, inl, inr, arith}
 use Rattle.std.proofs.lemmas.List.{take_all, take-append-le}
 use Rattle.net.specs.Meaning.{Meaning}
 use Rattle.net.specs.Limits.{Lawful, most_places, most_tokens}
@@ -31,8 +31,7 @@ tally_small zero f small = omega arith
 tally_small (suc n) f small = omega (arith, small n, tally_small n f small)
 
 cond_small : (b : Bool) (n : ℕ) → n ≤ most_tokens → cond b n 0 ≤ most_tokens
-cond_small true n h = h
-cond_small false n h = omega arith
+cond_small b n h = grind arith
 
 class_small : (m : Meaning) → Lawful m → (xs : List ℕ) (p k : ℕ) → sum xs ≤ most_tokens → InClass m xs p k → k < 2 ^ 64
 class_small m law xs p k light there =
@@ -42,14 +41,10 @@ class_small m law xs p k light there =
 -- ## The fault of a file
 
 first_spot : (e : Entry) (k : ℕ) (c : Counts) (f : Fault) → First (reasons e k c) f → f.spot ≡ Some k
-first_spot e k c f (inl (met, same)) = ap (λ x. x.spot) (sym same)
-first_spot e k c f (inr (_, inl (met, same))) = ap (λ x. x.spot) (sym same)
-first_spot e k c f (inr (_, inr (_, inl (met, same)))) = ap (λ x. x.spot) (sym same)
-first_spot e k c f (inr (_, inr (_, inr (_, inl (met, same))))) = ap (λ x. x.spot) (sym same)
-first_spot e k c f (inr (_, inr (_, inr (_, inr (_, none))))) = absurd none
+first_spot e k c f first = grind arith
 
 some_small : (spot : Option ℕ) (k : ℕ) → spot ≡ Some k → k < 2 ^ 64 → IfSome spot (λ i. i < 2 ^ 64)
-some_small spot k same small = subst (λ o. IfSome o (λ i. i < 2 ^ 64)) (sym same) small
+some_small spot k same small = rw same small
 
 spot_small : (bytes : List ℕ) (f : Fault) → length bytes < 2 ^ 64 → Found bytes (Err f) → IfSome f.spot (λ i. i < 2 ^ 64)
 spot_small bytes f short (inl cut) = some_small f.spot (record_count bytes) (ap (λ x. x.spot) cut.fault) (omega arith)

@@ -1,5 +1,4 @@
-pub mod Placing
-pub mod Lengths
+pub mod SwapLines
 pub mod Fits
 pub mod Filling
 pub mod Judging

@@ -1,6 +1,6 @@
 -- A file has one report.
-use Rattle.std.proofs.Common.{◌≡◌, ℕ, zero, suc, ◌<◌, ◌≤◌, true, false, cond, ltb, ◌≢◌, ◌⊎◌, List, [], ◌∷◌, ◌++◌, is_ok, Err, sym, refl, ap, ◌∙◌, subst, ap₂, inl, inr, arith}
-use Rattle.std.proofs.lemmas.Bool.{cases_lt, cases_eq}
+use Rattle.std.proofs.Common.{◌≡◌, ℕ, zero, suc, ◌<◌, ◌≤◌, true, false, cond, ltb, List, [], ◌∷◌, ◌++◌, is_ok, Err, sym, refl, ap, ◌∙◌, subst, ap₂, inl, inr, arith}
+use Rattle.std.proofs.lemmas.Bool.{cases_lt}
 use Rattle.net.specs.Meaning.{Meaning}
 use Rattle.net.specs.Limits.{Lawful}
 use Rattle.net.specs.declared.refusal.Fault.{Fault}
@@ -41,12 +41,7 @@ agree_back before = record {
 -- two greatest tables agree
 module _ (m : Meaning) (xs ys : List ℕ) (S T : Cells) (s : Greatest m xs ys S) (t : Greatest m xs ys T) where
   next_cell : (p q : ℕ) → p < m.places → q < m.places → AgreeBefore m.places S T p q → S p q ≡ T p q
-  next_cell p q l k before = by_test (cases_eq (S p q) (T p q))
-    where
-      by_test : (S p q ≡ T p q) ⊎ (S p q ≢ T p q) → S p q ≡ T p q
-      by_test (inl e) = e
-      by_test (inr d) =
-          absurd (omega (arith, t.above S s.pairs p q l k before d, s.above T t.pairs p q l k (agree_back before) (λ e. d (sym e))))
+  next_cell p q l k before = grind (arith, t.above S s.pairs p q l k before, s.above T t.pairs p q l k (agree_back before))
 
   row_agrees : (p q : ℕ) → p < m.places → q ≤ m.places → ((i j : ℕ) → i < p → j < m.places → S i j ≡ T i j) → (j : ℕ) → j < q → S p j ≡ T p j
   row_agrees p zero l k rows j h = absurd (omega arith)
@@ -83,12 +78,7 @@ not_lower : (m : Meaning) (c : Crews) (d e : Difference) → ApartBy m c d → A
 not_lower m c d e x y h = x.differ (y.lower d.class d.left d.right h x.on_left x.on_right)
 
 one_class : (m : Meaning) (c : Crews) (d e : Difference) → ApartBy m c d → ApartBy m c e → d.class ≡ e.class
-one_class m c d e x y = by_order (cases_lt d.class e.class) (cases_lt e.class d.class)
-  where
-    by_order : (d.class < e.class) ⊎ (e.class ≤ d.class) → (e.class < d.class) ⊎ (d.class ≤ e.class) → d.class ≡ e.class
-    by_order (inl h) k = absurd (not_lower m c d e x y h)
-    by_order (inr h) (inl k) = absurd (not_lower m c e d y x k)
-    by_order (inr h) (inr k) = omega arith
+one_class m c d e x y = grind (arith, not_lower m c d e x y, not_lower m c e d y x)
 
 one_difference : (m : Meaning) → Lawful m → (c : Crews) (d e : Difference) → ApartBy m c d → ApartBy m c e → d ≡ e
 one_difference m law c d e x y =

@@ -1,4 +1,4 @@
 pub mod Text
-pub mod Places
+pub mod Pages
 pub mod Reports
 pub mod Reporting

@@ -1,11 +1,12 @@
 // The report of a file.
-ghost use Rattle.std.specs.Prelude.{◌≤◌, length};
-ghost use Rattle.report.specs.Places.{Placed};
+ghost use Rattle.std.specs.Prelude.{◌≡◌, ◌++◌};
+ghost use Rattle.report.specs.Pages.{HasRoom};
 ghost use Rattle.report.specs.Reports.{OneText};
 ghost use Rattle.report.specs.Reporting.{Reported, Judges, verdict_text, text_of};
 
 use crate::file_bench::bench_of;
 use crate::lines::{put_alike, put_apart, put_refused};
+use crate::writing::Page;
 use crews::{MOST_SWAPS, Swap, SwapList, Verdict};
 use net::{Fault, Refusal};
 use records::check;
@@ -22,32 +23,33 @@ fn judge(bytes: &[u8], entries: &mut [Swap; MOST_SWAPS]) -> Result<Verdict, Faul
 }
 
 // The text of a verdict.
-fn put_verdict(out: &mut [u8], entries: [Swap; MOST_SWAPS], verdict: Verdict) -> usize
-    requires { length (verdict_text entries verdict) ≤ length out.old }
-    ensures { Placed 0 (verdict_text entries verdict) out.old out.new result }
+fn put_verdict(page: &mut Page, entries: [Swap; MOST_SWAPS], verdict: Verdict)
+    requires { HasRoom page.old (verdict_text entries verdict) }
+    ensures { page.new.bytes ≡ page.old.bytes ++ verdict_text entries verdict }
 {
     match verdict {
         Verdict::Alike { used } => {
             let list = SwapList { entries, used };
-            put_alike(out, list.swaps())
+            put_alike(page, list.swaps());
         }
-        Verdict::Apart(by) => put_apart(out, by),
+        Verdict::Apart(by) => put_apart(page, by),
     }
 }
 
 // The text of a verdict, or of the fault where the file is refused.
-fn put_judged(out: &mut [u8], entries: [Swap; MOST_SWAPS], judged: Result<Verdict, Fault>) -> usize
-    requires { length (text_of entries judged) ≤ length out.old }
-    ensures { Placed 0 (text_of entries judged) out.old out.new result }
+fn put_judged(page: &mut Page, entries: [Swap; MOST_SWAPS], judged: Result<Verdict, Fault>)
+    requires { HasRoom page.old (text_of entries judged) }
+    ensures { page.new.bytes ≡ page.old.bytes ++ text_of entries judged }
 {
     match judged {
-        Ok(verdict) => put_verdict(out, entries, verdict),
-        Err(fault) => put_refused(out, fault),
+        Ok(verdict) => put_verdict(page, entries, verdict),
+        Err(fault) => put_refused(page, fault),
     }
 }
 
 // Writes the report of a file over the front of the caller's bytes, and answers how many bytes it has. The bytes behind it stay as they were.
 // Refused where the caller's bytes are fewer than REPORT_SIZE; then they all stay as they were.
+// Kept: the text goes into the caller's bytes, with its length as the answer, since no call of the library takes memory.
 pub fn report(bytes: &[u8], out: &mut [u8]) -> Result<usize, Fault>
     ensures reported { Reported bytes.now out.old out.new result }
     ensures one { OneText }
@@ -55,11 +57,11 @@ pub fn report(bytes: &[u8], out: &mut [u8]) -> Result<usize, Fault>
     if out.len() < REPORT_SIZE {
         return Err(Fault::plain(Refusal::ShortList));
     }
-    let mut entries = [Swap {
-        left: 0,
-        right: 0,
-        count: 0,
-    }; MOST_SWAPS];
+    let mut entries = [Swap::default(); MOST_SWAPS];
     let judged = judge(bytes, &mut entries);
-    Ok(put_judged(out, entries, judged))
+    let mut page = Page::new();
+    put_judged(&mut page, entries, judged);
+    let text = page.as_str().as_bytes();
+    out[..text.len()].copy_from_slice(text);
+    Ok(text.len())
 }

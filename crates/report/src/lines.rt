@@ -1,74 +1,73 @@
-// The texts of a report, each written over the front of the caller's bytes. Each function answers the position behind what it wrote.
-ghost use Rattle.std.specs.Prelude.{◌+◌, ◌≤◌, length};
+// The texts of a report. Each function writes at the end of the page.
+// Kept: each text is pushed part by part and not by `write!` of a type with Display: the contracts of fmt speak of success alone, and a report's text is promised for every file.
+ghost use Rattle.std.specs.Prelude.{◌≡◌, ◌++◌};
 ghost use Rattle.report.specs.Text.{swap_line, swap_lines, alike_text, apart_text, spot_field, refused_text};
-ghost use Rattle.report.specs.Places.{Placed};
+ghost use Rattle.report.specs.Pages.{HasRoom};
 
-use crate::writing::{end_line, put_field, put_number, put_text};
+use crate::writing::{Page, end_line, put_field, put_number};
 use crews::{Difference, Swap};
 use net::Fault;
 
-// The line of one entry of a swap list, from a position on.
-fn put_swap(out: &mut [u8], at: usize, swap: Swap) -> usize
-    requires { at + length (swap_line swap) ≤ length out.old }
-    ensures { Placed at (swap_line swap) out.old out.new result }
+// The line of one entry of a swap list.
+fn put_swap(page: &mut Page, swap: Swap)
+    requires { HasRoom page.old (swap_line swap) }
+    ensures { page.new.bytes ≡ page.old.bytes ++ swap_line swap }
 {
-    let at = put_number(out, at, swap.left as usize);
-    let at = put_field(out, at, swap.right as usize);
-    let at = put_field(out, at, swap.count as usize);
-    end_line(out, at)
+    put_number(page, swap.left as usize);
+    put_field(page, swap.right as usize);
+    put_field(page, swap.count as usize);
+    end_line(page);
 }
 
-// The lines of a swap list, from a position on.
-fn put_swaps(out: &mut [u8], start: usize, list: &[Swap]) -> usize
-    requires { start + length (swap_lines list.now) ≤ length out.old }
-    ensures { Placed start (swap_lines list.now) out.old out.new result }
+// The lines of a swap list.
+#[tactic(auto, using(crate::proofs::SwapLines::swap_lines_step))]
+fn put_swaps(page: &mut Page, list: &[Swap])
+    requires { HasRoom page.old (swap_lines list.now) }
+    ensures { page.new.bytes ≡ page.old.bytes ++ swap_lines list.now }
 {
-    let mut at = start;
     for swap in list {
-        at = put_swap(out, at, *swap);
+        put_swap(page, *swap);
     }
-    at
 }
 
 // The crews are ALIKE, with this swap list.
-pub(crate) fn put_alike(out: &mut [u8], list: &[Swap]) -> usize
-    requires { length (alike_text list.now) ≤ length out.old }
-    ensures { Placed 0 (alike_text list.now) out.old out.new result }
+pub(crate) fn put_alike(page: &mut Page, list: &[Swap])
+    requires { HasRoom page.old (alike_text list.now) }
+    ensures { page.new.bytes ≡ page.old.bytes ++ alike_text list.now }
 {
-    let at = put_text(out, 0, b"ALIKE\n");
-    put_swaps(out, at, list)
+    page.push_str("ALIKE\n");
+    put_swaps(page, list);
 }
 
 // The crews are APART, by this difference.
-pub(crate) fn put_apart(out: &mut [u8], by: Difference) -> usize
-    requires { length (apart_text by) ≤ length out.old }
-    ensures { Placed 0 (apart_text by) out.old out.new result }
+pub(crate) fn put_apart(page: &mut Page, by: Difference)
+    requires { HasRoom page.old (apart_text by) }
+    ensures { page.new.bytes ≡ page.old.bytes ++ apart_text by }
 {
-    let at = put_text(out, 0, b"APART");
-    let at = put_field(out, at, by.class);
-    let at = put_field(out, at, by.left as usize);
-    let at = put_field(out, at, by.right as usize);
-    end_line(out, at)
+    page.push_str("APART");
+    put_field(page, by.class);
+    put_field(page, by.left as usize);
+    put_field(page, by.right as usize);
+    end_line(page);
 }
 
 // A spot behind a blank, where there is one.
-fn put_spot(out: &mut [u8], at: usize, spot: Option<usize>) -> usize
-    requires { at + length (spot_field spot) ≤ length out.old }
-    ensures { Placed at (spot_field spot) out.old out.new result }
+fn put_spot(page: &mut Page, spot: Option<usize>)
+    requires { HasRoom page.old (spot_field spot) }
+    ensures { page.new.bytes ≡ page.old.bytes ++ spot_field spot }
 {
-    match spot {
-        Some(number) => put_field(out, at, number),
-        None => at,
+    if let Some(number) = spot {
+        put_field(page, number);
     }
 }
 
 // The file is refused, with this fault.
-pub(crate) fn put_refused(out: &mut [u8], fault: Fault) -> usize
-    requires { length (refused_text fault) ≤ length out.old }
-    ensures { Placed 0 (refused_text fault) out.old out.new result }
+pub(crate) fn put_refused(page: &mut Page, fault: Fault)
+    requires { HasRoom page.old (refused_text fault) }
+    ensures { page.new.bytes ≡ page.old.bytes ++ refused_text fault }
 {
-    let at = put_text(out, 0, b"REFUSED");
-    let at = put_field(out, at, fault.refusal.number() as usize);
-    let at = put_spot(out, at, fault.spot);
-    end_line(out, at)
+    page.push_str("REFUSED");
+    put_field(page, fault.refusal.number() as usize);
+    put_spot(page, fault.spot);
+    end_line(page);
 }

@@ -10,26 +10,37 @@ fn place(number: u8) -> [u8; RECORD_SIZE] {
     [1, number, 0, 0, 0, 0, 0, 0]
 }
 
-// One token from a place to another, or to none where that is 255.
-fn step(place: u8, target: u8) -> [u8; RECORD_SIZE] {
-    let total = if target < 255 { 1 } else { 0 };
-    [2, place, 0, total, target, 255, 255, 255]
+// One token from a place to another, or to none.
+fn step(place: u8, target: Option<u8>) -> [u8; RECORD_SIZE] {
+    match target {
+        Some(target) => [2, place, 0, 1, target, 255, 255, 255],
+        None => [2, place, 0, 0, 255, 255, 255, 255],
+    }
 }
 
 fn tokens(side: u8, place: u8, count: u8) -> [u8; RECORD_SIZE] {
     [3, side, place, 0, 0, count, 0, 0]
 }
 
+// Records behind those of a file.
+fn add(file: &mut Vec<u8>, records: &[[u8; RECORD_SIZE]]) -> Result<(), AllocError> {
+    for record in records {
+        file.extend_from_slice(record)?;
+    }
+    Ok(())
+}
+
 // Four places, each with a transition of label 0: 0 to 0, 1 to 2, 2 to 1, and 3 to nothing.
 fn four_places(heap: Global) -> Result<Vec<u8>, AllocError> {
     let mut file = Vec::new(heap);
-    for number in 0..4 {
-        file.extend_from_slice(&place(number))?;
-    }
-    file.extend_from_slice(&step(0, 0))?;
-    file.extend_from_slice(&step(1, 2))?;
-    file.extend_from_slice(&step(2, 1))?;
-    file.extend_from_slice(&step(3, 255))?;
+    add(&mut file, &[place(0), place(1), place(2), place(3)])?;
+    let steps = [
+        step(0, Some(0)),
+        step(1, Some(2)),
+        step(2, Some(1)),
+        step(3, None),
+    ];
+    add(&mut file, &steps)?;
     Ok(file)
 }
 
@@ -46,11 +57,14 @@ fn reports(rt: &impl Abort, heap: Global, bytes: &[u8], text: &[u8]) -> Result<(
 #[test]
 fn crews_alike(rt: HostRuntime) -> Result<(), Fail> {
     let mut file = four_places(rt.alloc())?;
-    file.extend_from_slice(&tokens(0, 0, 2))?;
-    file.extend_from_slice(&tokens(0, 3, 1))?;
-    file.extend_from_slice(&tokens(1, 1, 1))?;
-    file.extend_from_slice(&tokens(1, 2, 1))?;
-    file.extend_from_slice(&tokens(1, 3, 1))?;
+    let crews = [
+        tokens(0, 0, 2),
+        tokens(0, 3, 1),
+        tokens(1, 1, 1),
+        tokens(1, 2, 1),
+        tokens(1, 3, 1),
+    ];
+    add(&mut file, &crews)?;
     reports(
         &rt,
         rt.alloc(),
@@ -63,10 +77,13 @@ fn crews_alike(rt: HostRuntime) -> Result<(), Fail> {
 #[test]
 fn crews_apart(rt: HostRuntime) -> Result<(), Fail> {
     let mut file = four_places(rt.alloc())?;
-    file.extend_from_slice(&tokens(0, 0, 2))?;
-    file.extend_from_slice(&tokens(0, 3, 1))?;
-    file.extend_from_slice(&tokens(1, 1, 1))?;
-    file.extend_from_slice(&tokens(1, 3, 1))?;
+    let crews = [
+        tokens(0, 0, 2),
+        tokens(0, 3, 1),
+        tokens(1, 1, 1),
+        tokens(1, 3, 1),
+    ];
+    add(&mut file, &crews)?;
     reports(&rt, rt.alloc(), file.as_slice(), b"APART 0 2 1\n")
 }
 
@@ -75,8 +92,7 @@ fn crews_apart(rt: HostRuntime) -> Result<(), Fail> {
 fn crews_equal(rt: HostRuntime) -> Result<(), Fail> {
     let mut file = four_places(rt.alloc())?;
     for side in 0..2 {
-        file.extend_from_slice(&tokens(side, 0, 1))?;
-        file.extend_from_slice(&tokens(side, 1, 1))?;
+        add(&mut file, &[tokens(side, 0, 1), tokens(side, 1, 1)])?;
     }
     reports(&rt, rt.alloc(), file.as_slice(), b"ALIKE\n0 0 1\n1 1 1\n")
 }
@@ -104,10 +120,8 @@ fn cut_file(rt: HostRuntime) -> Result<(), Fail> {
 #[test]
 fn undeclared_place(rt: HostRuntime) -> Result<(), Fail> {
     let mut file = Vec::new(rt.alloc());
-    for number in 0..3 {
-        file.extend_from_slice(&place(number))?;
-    }
-    file.extend_from_slice(&tokens(0, 3, 1))?;
+    let records = [place(0), place(1), place(2), tokens(0, 3, 1)];
+    add(&mut file, &records)?;
     reports(&rt, rt.alloc(), file.as_slice(), b"REFUSED 3 3\n")
 }
 
@@ -119,9 +133,7 @@ fn too_few_bytes(rt: HostRuntime) -> Result<(), Fail> {
         report(b"", out.as_mut_slice()),
         Err(Fault::plain(Refusal::ShortList))
     );
-    for byte in out.as_slice() {
-        assert_eq!(rt; *byte, 7);
-    }
+    assert!(rt; out.iter().all(|byte| *byte == 7));
     assert_eq!(rt; out.len(), 4095);
     Ok(())
 }

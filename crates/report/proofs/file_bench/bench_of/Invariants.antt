@@ -5,4 +5,7 @@ use Rattle.report.specs.Reports.{crews_after}
 use Rattle.report.proofs.file_bench.bench_of.Given as goal
 
 abbrev pub invariant-loop-k : goal.invariant-loop-k
-invariant-loop-k l = (l.bench.net ≡ l.net) × Shows (net_of l.bytes) l.bench (crews_after l.bytes l.k)
+invariant-loop-k l = record {
+  same : l.bench.net ≡ l.net;
+  shows : Shows (net_of l.bytes) l.bench (crews_after l.bytes l.k);
+}
