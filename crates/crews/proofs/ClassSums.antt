@@ -99,12 +99,3 @@ module _ (p : ℕ) (cs xs left_cs left_xs rest_cs rest_xs sums : List ℕ) (clas
           going = sums_more p cs xs sums k v (ek ∙ next_class.1) (omega (arith, ek, class_small)) (omega (arith, ev, next_count.1)) g.going;
         } in
         subst (λ (i : ℕ). Counting i cs xs rest_cs rest_xs (set sums k v)) (sym eq) more
-
--- where one of the two lists has ended, both have
-pub counting_all : (p : ℕ) (cs xs left_cs left_xs sums : List ℕ) → length xs ≡ length cs → (length left_cs ≡ 0) ⊎ (length left_xs ≡ 0) → Counting p cs xs left_cs left_xs sums
-    → (c : ℕ) → c < 128 → get_or sums c 0 ≡ in_class (length cs) cs xs c
-counting_all p cs xs left_cs left_xs sums even end g c l = g.going.each c l ∙ ap (λ (n : ℕ). in_class n cs xs c) (all end)
-  where
-    all : (length left_cs ≡ 0) ⊎ (length left_xs ≡ 0) → p ≡ length cs
-    all (inl e) = omega (arith, g.within, ap length g.classes, length-drop p cs)
-    all (inr e) = omega (arith, g.within, even, ap length g.counts, length-drop p xs)

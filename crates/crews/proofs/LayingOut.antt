@@ -1,20 +1,12 @@
 -- The crews of a bench laid out beside the classes of their places.
 use Rattle.std.proofs.Common.{◌≡◌, ℕ, List, take, ap, ◌∙◌, ap₂}
-use Rattle.std.proofs.lemmas.List.{get_or-take, take_at}
+use Rattle.std.proofs.lemmas.List.{take_at}
 use Rattle.net.specs.Meaning.{Meaning}
-use Rattle.team.specs.Classes.{ClassedBy}
 use Rattle.crews.specs.Crews.{Crews}
 use Rattle.crews.specs.Shows.{Holds, Shows, LaidOut}
 use Rattle.crews.specs.declared.bench.Bench.{Bench}
 use Rattle.crews.specs.declared.crewed.Crewed.{Crewed}
 use Rattle.crews.proofs.Judging.{crews_on}
-
--- the classes of the places are among the first entries
-pub classed_take : (m : Meaning) (cs : List ℕ) → ClassedBy m cs → ClassedBy m (take m.places cs)
-classed_take m cs classed = record {
-  same_class = λ p q l k. rw (get_or-take m.places cs p 0 l, get_or-take m.places cs q 0 k) (classed.same_class p q l k);
-  lowest = λ p l. rw (get_or-take m.places cs p 0 l) (classed.lowest p l);
-}
 
 front_is : (n : ℕ) (table crew : List ℕ) → Holds n table crew → take n table ≡ crew
 front_is n table crew h = ap (take n) h.shown ∙ take_at crew _ n h.each

@@ -1,11 +1,11 @@
 -- A list of calls performed one after the other.
-use Rattle.std.proofs.Common.{◌≡◌, ℕ, pred, ◌+◌, ◌<◌, ◌≤◌, List, [], ◌∷◌, ◌++◌, length, get_or, take, drop, set, Result, sym, refl, ap, ◌∙◌, subst, arith, take_all}
-use Rattle.std.proofs.lemmas.List.{take_more, take_more_set, drop-set-lt, drop-drop, length-set, length-take, take-append-drop}
+use Rattle.std.proofs.Common.{◌≡◌, ℕ, pred, ◌+◌, ◌<◌, ◌≤◌, List, [], ◌∷◌, ◌++◌, length, get_or, take, drop, set, Result, sym, refl, ap, ◌∙◌, subst, arith}
+use Rattle.std.proofs.lemmas.List.{take_more, take_more_set, drop-set-lt, drop-drop, length-set, length-take}
 use Rattle.net.specs.Meaning.{Meaning}
 use Rattle.net.specs.declared.refusal.Fault.{Fault}
 use Rattle.crews.specs.Crews.{nobody}
 use Rattle.crews.specs.Tally.{Run, begin, then, events}
-use Rattle.crews.specs.Shows.{Shows, Steps, Extends, Led, Replayed}
+use Rattle.crews.specs.Shows.{Shows, Steps, Extends, Led}
 use Rattle.crews.specs.declared.bench.Bench.{Bench}
 use Rattle.crews.specs.declared.call.Call.{Call}
 use Rattle.crews.specs.declared.call.Answer.{Answer}
@@ -47,15 +47,4 @@ going_more m calls i before after b b' d a h room g more =
       led = (led.0, led.1, subst (λ xs. Run m xs led.0) (sym e) led.2);
       whole = length-set after i a ∙ g.whole;
       rest = drop-set-lt (i + 1) after i a (omega arith) ∙ sym (drop-drop 1 i after) ∙ ap (drop 1) g.rest ∙ drop-drop 1 i before;
-    }
-
-pub going_all : {N : Type 0} (m : Meaning) (calls : List Call) (i : ℕ) (before after : List (Result Answer Fault)) (b : Bench N) → length calls ≤ length before → i ≡ length calls
-    → Going m calls i before after b → Replayed m calls before after b
-going_all m calls i before after b room e g =
-    let n = length calls in
-    let all : Going m calls (length calls) before after b = subst (λ k. Going m calls k before after b) e g in
-    record {
-      room = room;
-      led = subst (λ xs. Led m xs (take n after) b) (take_all n calls (omega arith)) all.led;
-      rest = sym (take-append-drop n after) ∙ ap (λ xs. take n after ++ xs) all.rest;
     }

@@ -1,6 +1,6 @@
 -- One row of the greedy table, cell by cell.
 use Rattle.std.proofs.Common.{◌≡◌, ℕ, ◌+◌, ◌-◌, ◌*◌, ◌<◌, ◌≤◌, min, cond, List, [], ◌∷◌, ◌++◌, length, get_or, take, drop, set, sym, refl, ap, ◌∙◌, ap₂, append_assoc, append-nil, arith, length-append, below_more}
-use Rattle.std.proofs.lemmas.List.{get_or-set_same, get_or-set_other, take-append-drop, take_at, drop_at, drop-drop, length-take-le, length-replicate}
+use Rattle.std.proofs.lemmas.List.{get_or-set_same, get_or-set_other, take_at, drop_at, drop-drop, length-take-le, length-replicate}
 use Rattle.team.specs.Below.{tally}
 use Rattle.team.specs.Tables.{same}
 use Rattle.team.specs.Pairings.{Cells}
@@ -21,16 +21,6 @@ pub record RowGoing (n : ℕ) (T : Cells) (x p q start : ℕ) (before : List Swa
   pub later : (j : ℕ) → q ≤ j → j < n → get_or taken j 0 ≡ tally p (λ i. T i j)
   pub count : used ≡ start + length (row_swaps T p q)
   pub written : after ≡ (take start before ++ row_swaps T p q) ++ drop used before
-
-pub row_none : (n : ℕ) (T : Cells) (x p start : ℕ) (before : List Swap) (taken : List ℕ) → ((j : ℕ) → j < n → get_or taken j 0 ≡ tally p (λ i. T i j))
-    → RowGoing n T x p 0 start before taken x before start
-row_none n T x p start before taken columns = record {
-  in_row = omega arith;
-  done = λ j l. absurd (omega arith);
-  later = λ j l k. columns j k;
-  count = omega arith;
-  written = sym (ap (λ xs. xs ++ drop start before) (append-nil (take start before)) ∙ take-append-drop start before);
-}
 
 module _ (w : Crewed) (p q start : ℕ) (before : List Swap) (taken : List ℕ) (have : ℕ) (after : List Swap) (used : ℕ) (l : p < places_of w) (k : q < places_of w)
     (g : RowGoing (places_of w) (table_of w) (get_or w.left.now p 0) p q start before taken have after used) where
@@ -133,8 +123,3 @@ pair_more n T p before taken taken' after after' used used' same_length g row =
       count = omega (arith, row.count, g.count, ap length (swaps_more T n p) ∙ length-append (swaps T n p) (row_swaps T p n));
       written = row.written ∙ ap (λ xs. (xs ++ row_swaps T p n) ++ drop used' after) front ∙ ap₂ (λ xs ys. xs ++ ys) (sym (swaps_more T n p)) behind;
     }
-
-pub pair_all : (n : ℕ) (T : Cells) (p : ℕ) (before : List Swap) (taken : List ℕ) (after : List Swap) (used : ℕ) → p ≡ n → PairGoing n T p before taken after used
-    → (used ≡ length (swaps T n n)) × (after ≡ swaps T n n ++ drop used before)
-pair_all n T p before taken after used e g =
-    (g.count ∙ ap (λ (k : ℕ). length (swaps T n k)) e, g.written ∙ ap (λ (k : ℕ). swaps T n k ++ drop used before) e)

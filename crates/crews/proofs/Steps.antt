@@ -9,7 +9,7 @@ use Rattle.net.specs.declared.refusal.Refusal.TheVariants.{TooFewTokens, TooMany
 use Rattle.net.proofs.Markings.{sum_more, sum_fired}
 use Rattle.net.proofs.Refusals.{first_front, first_back, free_append}
 use Rattle.crews.specs.Crews.{Crews, on_side, with_side}
-use Rattle.crews.specs.Calls.{unknown, lacking, not_ready, crowded, Meets, TriedInOrder}
+use Rattle.crews.specs.Calls.{unknown, lacking, not_ready, crowded, Meets}
 use Rattle.crews.specs.Tally.{Step, refused, put, taken, moved, counted}
 use Rattle.crews.specs.Sides.{number_of}
 use Rattle.crews.specs.Shows.{Holds, Shows, Steps, Ready, table_on, with_table}
@@ -18,17 +18,9 @@ use Rattle.crews.specs.declared.crew.Crew.{Crew}
 use Rattle.crews.specs.declared.side.Side.{Side}
 use Rattle.crews.specs.declared.side.Side.TheVariants.{Left, Right}
 use Rattle.crews.specs.declared.call.Call.{Call}
-use Rattle.crews.specs.declared.call.Call.TheVariants.{Put, Take, Fire, Follow, Count, Compare}
+use Rattle.crews.specs.declared.call.Call.TheVariants.{Put, Take, Fire, Count}
 use Rattle.crews.specs.declared.call.Answer.TheVariants.{Done, Tokens}
 use Rattle.crews.proofs.Tables.{holds_get_or, holds_sum, holds_set, holds_fired, shows_side, shows_with, with_table_net}
-
-pub tried_in_order : TriedInOrder
-tried_in_order m c (Put s p k) = (omega arith, (omega arith, (omega arith, tt)))
-tried_in_order m c (Take s p k) = (omega arith, (omega arith, (omega arith, tt)))
-tried_in_order m c (Fire s t) = (omega arith, (omega arith, (omega arith, (omega arith, tt))))
-tried_in_order m c (Follow s t) = (omega arith, (omega arith, (omega arith, (omega arith, (omega arith, tt)))))
-tried_in_order m c (Compare room) = (omega arith, tt)
-tried_in_order m c (Count s p) = (omega arith, (omega arith, tt))
 
 -- ## Refused
 
@@ -119,16 +111,6 @@ module _ {N : Type 0} (m : Meaning) (b : Bench N) (s : ℕ) (side : Side) (y : C
   }
 
 -- ## A transition that may fire: y is the table on its side
-
-pub unknown_first : {N : Type 0} (m : Meaning) (b : Bench N) (s t n : ℕ) (f : Fault) → n ≡ count_of m → First (unknown n s t) f → (c : Crews) → Shows m b c → First (not_ready m c s t) f
-unknown_first m b s t n f en first c h =
-    first_front (unknown (count_of m) s t) (lacking (on_side c s) (transition m t).place 1) f (subst (λ (j : ℕ). First (unknown j s t) f) en first)
-
-pub lacking_first : {N : Type 0} (m : Meaning) (b : Bench N) (s t : ℕ) (side : Side) (y : Crew) → Lawful m → s ≡ number_of side → y ≡ table_on b side → t < count_of m
-    → get_or y.counts (transition m t).place 0 < 1 → (f : Fault) → f ≡ plain TooFewTokens → (c : Crews) → Shows m b c → First (not_ready m c s t) f
-lacking_first m b s t side y law es ey known none f ef c h =
-    first_back (unknown (count_of m) s t) (lacking (on_side c s) (transition m t).place 1) f (free_known (count_of m) s t side es known)
-    (inl (omega (arith, none, same_get_or m b s side y es ey (transition m t).place c (law.each t known).place_known h), sym ef))
 
 pub not_ready_steps : {N : Type 0} (m : Meaning) (b : Bench N) (call : Call) (s t : ℕ) (rest : Crews → List Row) (f : Fault) → ((c : Crews) → Meets m c call ≡ not_ready m c s t ++ rest c)
     → ((c : Crews) → Shows m b c → First (not_ready m c s t) f) → Steps m b call (Err f) b

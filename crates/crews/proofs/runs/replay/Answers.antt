@@ -1,8 +1,8 @@
-use Rattle.std.proofs.Common.{◌≡◌, length, get_or, sym, refl, ◌∙◌, subst, arith}
+use Rattle.std.proofs.Common.{get_or, sym, refl, ◌∙◌, subst}
 use Rattle.crews.specs.Crews.{nobody}
-use Rattle.crews.specs.Shows.{Shows, Extends, Replayed}
+use Rattle.crews.specs.Shows.{Shows, Extends}
 use Rattle.crews.specs.declared.call.Call.TheVariants.{Put}
-use Rattle.crews.proofs.Replaying.{going_none, going_more, going_all}
+use Rattle.crews.proofs.Replaying.{going_none, going_more}
 use Rattle.crews.proofs.runs.replay.Goals as goal
 
 pub loop-i-init : goal.loop-i-init
@@ -20,9 +20,3 @@ loop-i-preserved g c =
       going_more (g.N.Net.meaning c.new-bench.result.net) calls c.loop-i.i c.args.answers.now c.loop-i.answers c.loop-i.bench c.perform.new.bench (Put 0 0 0) c.perform.result
           c.loop-i-test.true c.if-answers-calls.false inv.1 extends,
     )
-
-pub returns : goal.returns
-returns g c =
-    let done : c.loop-i.i ≡ length c.args.calls.now = omega (arith, c.loop-i-test.false, c.loop-i.auto.i-end) in
-    subst (λ x. Replayed (g.N.Net.meaning x) c.args.calls.now c.args.answers.now c.loop-i.answers c.loop-i.bench) c.new-bench.ensures.same
-    (going_all (g.N.Net.meaning c.new-bench.result.net) c.args.calls.now c.loop-i.i c.args.answers.now c.loop-i.answers c.loop-i.bench c.if-answers-calls.false done c.loop-i.invariant.1)

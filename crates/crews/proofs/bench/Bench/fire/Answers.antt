@@ -4,7 +4,7 @@ use Rattle.net.specs.Markings.{fired}
 use Rattle.crews.specs.Crews.{on_side}
 use Rattle.crews.specs.Calls.{crowded}
 use Rattle.crews.specs.declared.call.Call.TheVariants.{Fire}
-use Rattle.crews.proofs.Steps.{not_ready_steps, token, fire_crowded, fire_steps, sum_ready}
+use Rattle.crews.proofs.Steps.{not_ready_steps, fire_crowded, fire_steps, sum_ready}
 use Rattle.crews.proofs.bench.Bench.fire.Goals as goal
 
 pub returns-in_err-side : goal.returns-in_err-side
@@ -28,15 +28,15 @@ returns-then-from-room g c =
     fire_crowded m b c.args.side c.args.transition c.in_ok-side.side y law ready c.crew-crew.ensures c.plain.result c.plain.ensures
     (omega (arith, all, c.if-from-room.true, c.room.ensures, c.total.ensures, c.from.ensures))
 
-pub fire-requires : goal.fire-requires
-fire-requires g c =
+pub fire-requires-clause-fits : goal.fire-requires-clause-fits
+fire-requires-clause-fits g c =
     let b = c.args.self.now in
     let m = g.N.Net.meaning b.net in
     let y = c.crew-crew.result in
     let ready = c.in_ok-side.ensures in
     let whole : length y.counts ≡ 128 = search rules in
     let all = sum_ready m b c.args.side c.args.transition c.in_ok-side.side y (g.N.Net.lawful b.net) ready c.crew-crew.ensures whole in
-    record { known = ready.known; there = token m b c.args.side c.args.transition c.in_ok-side.side y (g.N.Net.lawful b.net) ready c.crew-crew.ensures; fits = omega (arith, all, c.if-from-room.false, c.room.ensures, c.total.ensures, c.from.ensures) }
+    omega (arith, all, c.if-from-room.false, c.room.ensures, c.total.ensures, c.from.ensures)
 
 pub returns : goal.returns
 returns g c =

@@ -5,7 +5,7 @@ use Rattle.crews.specs.Shows.{table_on, with_table}
 use Rattle.crews.specs.declared.side.Side.{Side}
 use Rattle.crews.specs.declared.call.Call.TheVariants.{Follow}
 use Rattle.crews.proofs.Following.{found_some, found_none, follow_apart, follow_full, some_answer, sum_answer, follow_steps}
-use Rattle.crews.proofs.Steps.{not_ready_steps, token, sum_ready}
+use Rattle.crews.proofs.Steps.{not_ready_steps, sum_ready}
 use Rattle.crews.proofs.bench.Bench.follow.Goals as goal
 use Rattle.crews.proofs.bench.Bench.follow.Goals.{then-total-room-via-then-total-room, then-total-room-via-else-total-room+then-total-room-2}
 
@@ -27,33 +27,29 @@ returns-then-is_some g c =
     follow_apart m b c.args.side c.args.transition c.in_ok-side.side _ _ (g.N.Net.lawful b.net) c.in_ok-side.ensures refl refl c.crewed.result c.crewed.ensures d at
     c.plain.result c.plain.ensures
 
-pub answering-answer-requires : goal.answering-answer-requires
-answering-answer-requires g c =
+pub answering-answer-requires-clause-some : goal.answering-answer-requires-clause-some
+answering-answer-requires-clause-some g c =
     let b = c.args.self.now in
     let m = g.N.Net.meaning b.net in
     let law = g.N.Net.lawful b.net in
     let cs = c.class_table-table.result.classes in
     let ready = c.in_ok-side.ensures in
     let level = found_none c.crewed.result c.difference.result (sym c.is_some.ensures ∙ c.if-is_some.false) c.difference.ensures in
-    record {
-      known = ready.known;
-      named = λ p l. omega (arith, l, (c.class_table-table.ensures.lowest p l).most);
-      some = some_answer m b c.args.side c.args.transition c.in_ok-side.side c.crew-crew.result c.crew-other.result law ready c.crew-crew.ensures (c.crew-other.ensures ∙ ap (table_on b) c.other-across.ensures) c.crewed.result c.crewed.ensures level
-          (search rules) (search rules) cs c.class_table-table.ensures;
-    }
+    some_answer m b c.args.side c.args.transition c.in_ok-side.side c.crew-crew.result c.crew-other.result law ready c.crew-crew.ensures (c.crew-other.ensures ∙ ap (table_on b) c.other-across.ensures) c.crewed.result c.crewed.ensures level
+    (search rules) (search rules) cs c.class_table-table.ensures
 
-pub fire-requires : goal.fire-requires
-fire-requires g c =
+pub fire-requires-clause-fits : goal.fire-requires-clause-fits
+fire-requires-clause-fits g c =
     let b = c.args.self.now in
     let m = g.N.Net.meaning b.net in
     let y = c.crew-crew.result in
     let ready = c.in_ok-side.ensures in
     let whole : length y.counts ≡ 128 = search rules in
     let all = sum_ready m b c.args.side c.args.transition c.in_ok-side.side y (g.N.Net.lawful b.net) ready c.crew-crew.ensures whole in
-    record { known = ready.known; there = token m b c.args.side c.args.transition c.in_ok-side.side y (g.N.Net.lawful b.net) ready c.crew-crew.ensures; fits = omega (arith, all, c.if-total-room.false, c.room.ensures, c.total.ensures, c.from-total.ensures) }
+    omega (arith, all, c.if-total-room.false, c.room.ensures, c.total.ensures, c.from-total.ensures)
 
-pub fire-requires-2 : goal.fire-requires-2
-fire-requires-2 g c =
+pub fire-requires-2-clause-fits : goal.fire-requires-2-clause-fits
+fire-requires-2-clause-fits g c =
     let b = c.args.self.now in
     let m = g.N.Net.meaning b.net in
     let law = g.N.Net.lawful b.net in
@@ -64,7 +60,7 @@ fire-requires-2 g c =
     let whole : length z.counts ≡ 128 = search rules in
     let all = sum_answer m b c.args.side c.args.transition c.in_ok-side.side c.crew-crew.result z law c.in_ok-side.ensures c.crew-crew.ensures (c.crew-other.ensures ∙ ap (table_on b) c.other-across.ensures) c.crewed.result c.crewed.ensures level
     (search rules) (search rules) cs c.class_table-table.ensures c.answering-answer.result fits whole in
-    record { known = fits.known; there = fits.token; fits = omega (arith, all, c.if-total-room-2.false, c.room-else-total-room.ensures, c.total.ensures, c.from-total.ensures) }
+    omega (arith, all, c.if-total-room-2.false, c.room-else-total-room.ensures, c.total.ensures, c.from-total.ensures)
 
 pub returns : goal.returns
 returns g c =

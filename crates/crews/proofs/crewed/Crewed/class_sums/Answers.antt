@@ -1,5 +1,5 @@
-use Rattle.std.proofs.Common.{◌+◌, ◌≤◌, get_or, refl, inl, inr, arith, rules, length-append}
-use Rattle.crews.proofs.ClassSums.{counting_none, counting_small, counting_more, counting_all}
+use Rattle.std.proofs.Common.{◌+◌, ◌≤◌, get_or, refl, arith, rules, length-append}
+use Rattle.crews.proofs.ClassSums.{counting_none, counting_small, counting_more}
 use Rattle.crews.proofs.crewed.Crewed.class_sums.Goals as goal
 
 pub loop-class-init : goal.loop-class-init
@@ -16,7 +16,3 @@ pub loop-class-preserved : goal.loop-class-preserved
 loop-class-preserved c =
     let step = c.in-Some.ensures.steps in
     ((tt, tt), tt, counting_more _ _ _ _ _ _ _ _ _ _ c.loop-class.invariant.2 step.0 step.1 c.args.self.now.named _ _ _ (length-append c.loop-class.yielded _) c.from.ensures refl)
-
-pub returns : goal.returns
-returns c =
-    counting_all _ _ _ _ _ _ c.requires.whole (elim c.in-None.ensures.steps [ inl (x, e) ↦ inl e.0 | inr (x, e) ↦ inr e.0 ]) c.loop-class.invariant.2

@@ -1,10 +1,7 @@
 use Rattle.std.proofs.Common.{◌<◌, length, refl, arith, rules}
-use Rattle.crews.proofs.RowCells.{row_none, column_small, entry_room, row_kept, row_pushed}
+use Rattle.crews.proofs.RowCells.{column_small, entry_room, row_kept, row_pushed}
 use Rattle.crews.proofs.crewed.Crewed.pair_row.Goals as goal
 use Rattle.crews.proofs.crewed.Crewed.pair_row.Goals.{then-k-gt0, else-k-gt0}
-
-pub loop-q-init : goal.loop-q-init
-loop-q-init c = row_none _ _ _ c.args.p c.args.start c.args.list.now c.args.taken.now c.requires.columns
 
 pub overflow_sub-self : goal.overflow_sub-self
 overflow_sub-self c =
