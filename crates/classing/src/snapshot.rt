@@ -12,6 +12,7 @@ use net::{MOST_PLACES, MOST_TOTAL, MOST_TRANSITIONS, Net};
 pub const WIDTH: usize = MOST_TOTAL as usize;
 
 // What stands in place of a target where there is no token.
+// Kept: a record file has the same byte there, and plain bytes sort and compare with no type of their own.
 pub const NO_TARGET: u8 = 255;
 
 // A transition: its place, its label, and a target for each token that it puts down.
@@ -23,6 +24,7 @@ pub struct Move {
 }
 
 // The transitions of a net, and the numbers of those of each place.
+// Kept: a count beside the moves, since an `ArrayVec` fills its room with default moves, and no move is a default one.
 #[derive(Drop)]
 pub struct Snapshot {
     pub places: usize,
@@ -83,6 +85,7 @@ impl Snapshot {
             label: 0,
             targets: [NO_TARGET; WIDTH],
         }; MOST_TRANSITIONS];
+        // Kept: the moves are written by index, since a contract knows nothing of what is written through `iter_mut`.
         for t in 0..count {
             moves[t] = ask(net, t);
         }
