@@ -1,6 +1,9 @@
 // What the timing program in bench/ links: the classes call on a listed net and on a ring, over and over.
 #![tactic(auto)]
 
+ghost use Rattle.std.specs.Prelude.{◌≤◌};
+ghost use Rattle.net.specs.Limits.{most_transitions};
+
 use class_tests::Listed;
 use classing::{Move, NO_TARGET, WIDTH, classes};
 use net::{MOST_TRANSITIONS, Net, Ring};
@@ -9,38 +12,30 @@ use net::{MOST_TRANSITIONS, Net, Ring};
 const ROW: usize = 6;
 
 // What is answered where the call was refused.
+// Kept: a number, since the C interface answers one.
 const REFUSED: usize = 1000;
 
-// The net whose transitions stand in the bytes, one after the other.
-fn net_of(places: usize, bytes: &[u8]) -> Listed {
-    let mut rows = [Move {
-        place: 0,
-        label: 0,
-        targets: [NO_TARGET; WIDTH],
-    }; MOST_TRANSITIONS];
-    let mut count: usize = 0;
-    for t in 0..MOST_TRANSITIONS {
-        let at = ROW * t;
-        if at + ROW <= bytes.len() {
-            rows[t] = Move {
-                place: bytes[at],
-                label: bytes[at + 1],
-                targets: [bytes[at + 2], bytes[at + 3], bytes[at + 4], bytes[at + 5]],
+// Writes the transitions that stand in the bytes, one after the other, to the front of the rows, and answers how many there are.
+fn read(bytes: &[u8], rows: &mut [Move; MOST_TRANSITIONS]) -> usize
+    ensures { result ≤ most_transitions }
+{
+    for (row, bytes) in rows.iter_mut().zip(bytes.chunks_exact(ROW)) {
+        if let [place, label, a, b, c, d] = *bytes {
+            *row = Move {
+                place,
+                label,
+                targets: [a, b, c, d],
             };
-            count = t + 1;
         }
     }
-    Listed::new(places, count, rows)
+    (bytes.len() / ROW).min(MOST_TRANSITIONS)
 }
 
 // Calls classes `turns` times, and answers the rounds of the last call.
 fn repeat<N: Net>(net: &N, list: &mut [u8], turns: usize) -> usize {
     let mut rounds = REFUSED;
     for _ in 0..turns {
-        rounds = match classes(net, list) {
-            Ok(found) => found,
-            Err(_) => REFUSED,
-        };
+        rounds = classes(net, list).unwrap_or(REFUSED);
     }
     rounds
 }
@@ -52,7 +47,13 @@ pub extern "C" fn bench_listed(
     list: &mut [u8],
     turns: usize,
 ) -> usize {
-    repeat(&net_of(places, bytes), list, turns)
+    let mut rows = [Move {
+        place: 0,
+        label: 0,
+        targets: [NO_TARGET; WIDTH],
+    }; MOST_TRANSITIONS];
+    let count = read(bytes, &mut rows);
+    repeat(&Listed::new(places, &rows[..count]), list, turns)
 }
 
 #[unsafe(no_mangle)]

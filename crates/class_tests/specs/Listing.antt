@@ -1,20 +1,19 @@
 -- A net that is given as a list of moves.
-use Rattle.std.specs.Prelude.{ℕ, Bool, ◌&&◌, ◌||◌, List, map, ◌==◌, nat_le, nat_lt, slice_index, slice_index_or}
-use Rattle.std.specs.List.{range_with_len}
+use Rattle.std.specs.Prelude.{ℕ, Bool, ◌&&◌, ◌||◌, List, map, length, ◌==◌, nat_le, nat_lt, slice_index}
+use Rattle.std.specs.List.{range_with_len, list_all}
 use Rattle.net.specs.Meaning.{Meaning, Transition}
 use Rattle.net.specs.Limits.{most_places, most_transitions, most_label, most_total}
 use Rattle.team.specs.Below.{every}
 use Rattle.classing.specs.Targets.{no_target, times}
-use Rattle.classing.specs.Snapshots.{no_move}
 use Rattle.classing.specs.declared.snapshot.Move.{Move}
 
 -- a move among n places, as a transition
 abbrev pub meant : ℕ → Move → Transition
 meant n k = record { place = k.place; label = k.label; puts = map (times most_total k.targets) (range_with_len 0 n) }
 
--- n places and the first `count` moves
-abbrev pub listed : ℕ → ℕ → List Move → Meaning
-listed n count rows = record { places = n; transitions = map (λ t. meant n (slice_index_or rows t no_move)) (range_with_len 0 count) }
+-- n places and the moves
+abbrev pub listed : ℕ → List Move → Meaning
+listed n rows = record { places = n; transitions = map (meant n) rows }
 
 abbrev pub target_fits : ℕ → ℕ → Bool
 target_fits n x = nat_lt x n || x == no_target
@@ -26,9 +25,9 @@ targets_fit n ts = every most_total (λ j. target_fits n (slice_index ts j))
 abbrev pub move_fits : ℕ → Move → Bool
 move_fits n k = nat_lt k.place n && (nat_le k.label most_label && targets_fit n k.targets)
 
-abbrev pub moves_fit : ℕ → ℕ → List Move → Bool
-moves_fit n count rows = every count (λ t. move_fits n (slice_index_or rows t no_move))
+abbrev pub moves_fit : ℕ → List Move → Bool
+moves_fit n rows = list_all (move_fits n) rows
 
 -- a list that keeps the limits of a net
-abbrev pub fits : ℕ → ℕ → List Move → Bool
-fits n count rows = nat_le n most_places && (nat_le count most_transitions && moves_fit n count rows)
+abbrev pub fits : ℕ → List Move → Bool
+fits n rows = nat_le n most_places && (nat_le (length rows) most_transitions && moves_fit n rows)

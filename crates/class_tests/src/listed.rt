@@ -7,79 +7,64 @@ use crate::checks::{are_fit, times_in};
 use classing::{Move, NO_TARGET, WIDTH};
 use net::{MOST_PLACES, MOST_TRANSITIONS, Net};
 
-#[derive(Drop)]
-pub struct Listed {
+#[derive(Clone, Copy)]
+pub struct Listed<'a> {
     places: usize,
-    count: usize,
-    rows: [Move; MOST_TRANSITIONS],
-    ghost ok: { fits places count rows ≡ true },
+    rows: &'a [Move],
+    ghost ok: { fits places rows.now ≡ true },
 }
 
-impl Listed {
-    // The net of the first `count` moves on the first n places, or an empty one where these do not keep the limits.
-    pub fn new(places: usize, count: usize, rows: [Move; MOST_TRANSITIONS]) -> Listed
-        ensures { fits places count rows ≡ true → listed_net result.places result.count result.rows ≡ listed_net places count rows }
+impl<'a> Listed<'a> {
+    // The net of the moves on the first n places, or an empty one where these do not keep the limits.
+    pub fn new(places: usize, rows: &'a [Move]) -> Listed<'a>
+        ensures { fits places rows.now ≡ true → listed_net result.places result.rows.now ≡ listed_net places rows.now }
     {
-        if places <= MOST_PLACES && count <= MOST_TRANSITIONS && are_fit(&rows, count, places) {
-            Listed {
-                places,
-                count,
-                rows,
-            }
+        if places <= MOST_PLACES && rows.len() <= MOST_TRANSITIONS && are_fit(rows, places) {
+            Listed { places, rows }
         } else {
             Listed {
                 places: 0,
-                count: 0,
-                rows,
+                rows: &[],
             }
         }
     }
 }
 
-impl Net for Listed {
-    ghost meaning = { λ x. listed_net x.places x.count x.rows };
+impl Net for Listed<'_> {
+    ghost meaning = { λ x. listed_net x.places x.rows.now };
 
-    ghost lawful = { λ x. listed_lawful x.places x.count x.rows x.ok };
+    ghost lawful = { λ x. listed_lawful x.places x.rows.now x.ok };
 
     fn places(&self) -> usize {
         self.places
     }
 
     fn transitions(&self) -> usize {
-        self.count
+        self.rows.len()
     }
 
     fn place(&self, t: usize) -> usize {
-        if t < self.count {
-            usize::from(self.rows[t].place)
-        } else {
-            0
-        }
+        self.rows.get(t).map_or(0, |row| usize::from(row.place))
     }
 
     fn label(&self, t: usize) -> u8 {
-        if t < self.count {
-            self.rows[t].label
-        } else {
-            0
-        }
+        self.rows.get(t).map_or(0, |row| row.label)
     }
 
     fn total(&self, t: usize) -> u8 {
-        if t < self.count {
-            WIDTH as u8 - times_in(&self.rows[t].targets, NO_TARGET)
-        } else {
-            0
+        match self.rows.get(t) {
+            Some(row) => WIDTH as u8 - times_in(&row.targets, NO_TARGET),
+            None => 0,
         }
     }
 
     fn tokens(&self, t: usize, p: usize) -> u8 {
-        if t >= self.count {
-            return 0;
-        }
         if p >= self.places {
             return 0;
         }
-        times_in(&self.rows[t].targets, p as u8)
+        match self.rows.get(t) {
+            Some(row) => times_in(&row.targets, p as u8),
+            None => 0,
+        }
     }
 }

@@ -48,6 +48,7 @@ pub(crate) fn describe_all(
 )
     ensures { Described snapshot.now table.now.classes profiles.new }
 {
+    // Kept: the profiles are written by index, since a contract knows nothing of what is written through `iter_mut`.
     for k in 0..snapshot.count {
         profiles[k] = describe(&snapshot.moves[usize::from(snapshot.order[k])], table);
     }

@@ -83,6 +83,7 @@ impl Stage<'_> {
         requires { (q : ℕ) → q < self.now.snapshot.now.places → slice_index self.now.table.now.classes q ≤ q }
         ensures { (p : ℕ) → p < self.now.snapshot.now.places → LowestStay self.now.snapshot.now self.now.profiles.now self.now.table.now.classes p (slice_index next.new.classes p) }
     {
+        // Kept: the classes are written by index, since a contract knows nothing of what is written through `iter_mut`.
         for p in 0..self.snapshot.places {
             next.classes[p] = self.lowest(next, p) as u8;
         }

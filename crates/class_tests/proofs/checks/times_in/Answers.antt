@@ -3,5 +3,5 @@ use Rattle.std.proofs.lemmas.Bool.Decides.{nat_tests}
 use Rattle.team.proofs.Sums.{tally_next}
 use Rattle.class_tests.proofs.checks.times_in.Goals as goal
 
-pub loop-j-preserved : goal.loop-j-preserved
-loop-j-preserved c = grind (arith, tally_next, nat_tests)
+pub loop-target-preserved : goal.loop-target-preserved
+loop-target-preserved c = grind (arith, tally_next, nat_tests)

@@ -1,31 +1,35 @@
-use Rattle.std.proofs.Common.{◌+◌, arith}
+use Rattle.std.proofs.Common.{arith}
 use Rattle.net.specs.Meaning.{transition}
 use Rattle.net.specs.Limits.{most_total}
-use Rattle.classing.proofs.Targets.{total_tally, tokens_fit, spell_more, spell_all}
+use Rattle.classing.proofs.Targets.{total_tally, spell_more, spell_room, spell_on, spell_all}
 use Rattle.classing.proofs.snapshot.targets_of.Goals as goal
 
-pub overflow_add-end : goal.overflow_add-end
-overflow_add-end g c =
-    let m = g.N.Net.meaning c.args.net.now in
-    omega (arith, c.from.ensures, c.tokens.ensures, tokens_fit m (g.N.Net.lawful c.args.net.now) c.args.t c.requires c.loop-p.targets c.loop-p.found c.loop-p.p c.loop-p.invariant (omega arith))
+pub bounds-targets-found : goal.bounds-targets-found
+bounds-targets-found g c = let law = g.N.Net.lawful c.args.net.now in omega (arith, (law.each c.args.t c.requires).total_small)
 
-pub put-requires-clause-room : goal.put-requires-clause-room
-put-requires-clause-room g c =
-    let m = g.N.Net.meaning c.args.net.now in
-    omega (arith, c.from.ensures, c.tokens.ensures, tokens_fit m (g.N.Net.lawful c.args.net.now) c.args.t c.requires c.loop-p.targets c.loop-p.found c.loop-p.p c.loop-p.invariant (omega arith))
-
-pub loop-p-preserved : goal.loop-p-preserved
-loop-p-preserved g c =
+pub loop-found-preserved-then-left-gt0 : goal.loop-found-preserved-then-left-gt0
+loop-found-preserved-then-left-gt0 g c =
     let m = g.N.Net.meaning c.args.net.now in
     let law = g.N.Net.lawful c.args.net.now in
-    spell_more most_total m.places (omega (arith, law.few_places)) (transition m c.args.t).puts c.loop-p.targets c.loop-p.found c.loop-p.p c.loop-p.invariant
-    c.put.new.targets (c.loop-p.found + c.from.result) (omega arith) (omega (arith, c.from.ensures, c.tokens.ensures))
-    (omega (arith, c.from.ensures, c.tokens.ensures, tokens_fit m law c.args.t c.requires c.loop-p.targets c.loop-p.found c.loop-p.p c.loop-p.invariant (omega arith)))
-    (omega arith) c.put.ensures.inside c.put.ensures.before c.put.ensures.after
+    spell_more most_total m.places (omega (arith, law.few_places)) (transition m c.args.t).puts c.loop-found.targets c.loop-found.found c.loop-found.p c.loop-found.left
+    c.loop-found.invariant c.if-left-gt0.true (omega (arith, (law.each c.args.t c.requires).total_small))
 
-pub returns-then-found-total : goal.returns-then-found-total
-returns-then-found-total g c =
+pub loop-found-preserved : goal.loop-found-preserved
+loop-found-preserved g c =
     let m = g.N.Net.meaning c.args.net.now in
     let law = g.N.Net.lawful c.args.net.now in
-    spell_all most_total m.places (omega (arith, law.few_places)) (transition m c.args.t).puts c.loop-p.targets c.loop-p.found c.loop-p.p c.loop-p.invariant
-    (omega (arith, total_tally m law c.args.t c.requires))
+    let few = law.few_places in
+    let total = total_tally m law c.args.t c.requires in
+    let room = spell_room most_total m.places (omega arith) (transition m c.args.t).puts c.loop-found.targets c.loop-found.found c.loop-found.p c.loop-found.left
+    c.loop-found.invariant (omega arith) (omega arith) in
+    spell_on most_total m.places (omega arith) (transition m c.args.t).puts c.loop-found.targets c.loop-found.found c.loop-found.p c.loop-found.left
+    c.loop-found.invariant room (omega arith) _ c.tokens-left-else-left-gt0.ensures
+
+pub returns : goal.returns
+returns g c =
+    let m = g.N.Net.meaning c.args.net.now in
+    let law = g.N.Net.lawful c.args.net.now in
+    let few = law.few_places in
+    let total = total_tally m law c.args.t c.requires in
+    spell_all most_total m.places (omega arith) (transition m c.args.t).puts c.loop-found.targets c.loop-found.found c.loop-found.p c.loop-found.left
+    c.loop-found.invariant (omega arith)

@@ -1,11 +1,13 @@
-use Rattle.std.proofs.Common.{sym, ap, arith}
-use Rattle.net.specs.Meaning.{total_of}
-use Rattle.class_tests.specs.ListingLaws.{listed_past, listed_total}
+use Rattle.std.proofs.Common.{ap, arith}
+use Rattle.net.specs.Limits.{most_total}
+use Rattle.classing.specs.Targets.{no_target, times}
+use Rattle.classing.specs.Snapshots.{no_move}
+use Rattle.classing.specs.declared.snapshot.Move.{Move}
+use Rattle.class_tests.specs.ListingLaws.{listed_total}
 use Rattle.class_tests.proofs.listed.ListedNet.total.Goals as goal
 
-pub returns-then-t-self : goal.returns-then-t-self
-returns-then-t-self c =
-    let x = c.args.self.now in omega (arith, c.times_in.ensures, listed_total x.places x.count x.rows x.ok c.args.t c.if-t-self.true)
-
-pub returns-else-t-self : goal.returns-else-t-self
-returns-else-t-self c = let x = c.args.self.now in sym (ap total_of (listed_past x.places x.count x.rows c.args.t c.if-t-self.false))
+pub returns-in-Some : goal.returns-in-Some
+returns-in-Some c =
+    let x = c.args.self.now in
+    let (l, row) = c.in-Some.ensures.lookup.3 in
+    omega (arith, c.times_in.ensures, ap (λ (k : Move). times most_total k.targets no_target) (row no_move), listed_total x.places x.rows.now x.ok c.args.t l)
