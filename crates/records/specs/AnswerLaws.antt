@@ -1,11 +1,11 @@
 -- The answers of a file's net, as its records say them.
-use Rattle.std.specs.Prelude.{◌≡◌, ℕ, ◌+◌, ◌*◌, ◌<◌, ◌≤◌, true, cond, List, [], ◌∷◌, length, take, Some, None, Option, is_some, IfSome, ◌==◌, nat_lt, slice_index, refl}
+use Rattle.std.specs.Prelude.{◌≡◌, ℕ, ◌+◌, ◌*◌, ◌<◌, ◌≤◌, true, cond, List, [], ◌∷◌, length, take, Some, Option, ◌==◌, nat_lt, slice_index, refl}
 use Rattle.std.specs.Option.{option_map_or}
-use Rattle.std.proofs.Common.{arith, sym, ap, subst, ◌∙◌, ⊎_elim, length-take, get_or-take}
+use Rattle.std.proofs.Common.{arith, sym, ap, ◌∙◌, ⊎_elim, length-take, get_or-take}
 use Rattle.std.proofs.lemmas.List.{get_or_past}
 use Rattle.std.proofs.lemmas.List.FromFn.{get_or-map-range_with_len}
 use Rattle.std.proofs.lemmas.List.Sums.{sum_by-cons}
-use Rattle.std.proofs.lemmas.Bool.{false≢true, and_parts, ltb-true, ne_eqb, cases_lt}
+use Rattle.std.proofs.lemmas.Bool.{and_parts, ltb-true, ne_eqb, cases_lt}
 use Rattle.net.specs.Meaning.{transition, count_of, tokens_on, total_of}
 use Rattle.records.specs.declared.record.Transition.{Transition as Read}
 use Rattle.records.specs.Layout.{record_size, record_at}
@@ -57,10 +57,6 @@ module _ (b : List ℕ) (t : ℕ) (h : t < length (picked b)) where
             (cases_lt p n);
       }
 
-  tells_at : (o : Option Read) → is_some o ≡ is_transition (reading (record_at b (slice_index (picked b) t))) → IfSome o (λ x. reading (record_at b (slice_index (picked b) t)) ≡ moves x.place x.label x.targets.now) → Tells b t o
-  tells_at None kind value = absurd (false≢true (kind ∙ ap is_transition (found b t h).placed.move.is))
-  tells_at (Some x) kind value = tells_some x value
-
 -- ## By the table of record numbers that a file net keeps
 
 module _ (b starts : List ℕ) (count : ℕ) (tied : take count starts ≡ picked b) (few : count ≤ length starts) where
@@ -81,7 +77,12 @@ module _ (b starts : List ℕ) (count : ℕ) (tied : take count starts ≡ picke
     pub start_inside : record_size * k + record_size ≤ length b
     start_inside = omega (arith, (found b t numbered).inside, start_is)
 
-    pub start_tells : (r : List ℕ) → r ≡ record_at b k → (o : Option Read) → is_some o ≡ is_transition (reading r) → IfSome o (λ x. reading r ≡ moves x.place x.label x.targets.now) → Tells b t o
-    start_tells r e o kind value =
-        let r_is : r ≡ record_at b (slice_index (picked b) t) = e ∙ ap (record_at b) start_is in
-        tells_at b t numbered o (kind ∙ ap (λ r. is_transition (reading r)) r_is) (subst (λ r. IfSome o (λ x. reading r ≡ moves x.place x.label x.targets.now)) r_is value)
+    module _ (r : List ℕ) (e : r ≡ record_at b k) where
+      at_start : r ≡ record_at b (slice_index (picked b) t)
+      at_start = e ∙ ap (record_at b) start_is
+
+      pub start_reads : is_transition (reading r) ≡ true
+      start_reads = ap (λ r. is_transition (reading r)) at_start ∙ ap is_transition (found b t numbered).placed.move.is
+
+      pub start_tells : (x : Read) → reading r ≡ moves x.place x.label x.targets.now → Tells b t (Some x)
+      start_tells x value = tells_some b t numbered x (ap reading (sym at_start) ∙ value)

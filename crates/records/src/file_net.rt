@@ -102,7 +102,7 @@ impl<'a> FileNet<'a> {
         if t >= self.count {
             return None;
         }
-        Transition::read(record_at(self.bytes, usize::from(self.starts[t])))
+        Some(Transition::of_admitted(record_at(self.bytes, usize::from(self.starts[t]))))
     }
 }
 

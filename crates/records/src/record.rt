@@ -1,5 +1,5 @@
 // A record of a file, got by its number, and what it says.
-ghost use Rattle.std.specs.Prelude.{◌≡◌, ◌+◌, ◌*◌, ◌≤◌, length, take, is_some, IfSome};
+ghost use Rattle.std.specs.Prelude.{◌≡◌, ◌+◌, ◌*◌, ◌≤◌, true, length, take, is_some, IfSome};
 ghost use Rattle.records.specs.Layout.{record_size, record_targets, record_at as nth_record};
 ghost use Rattle.records.specs.Entry.{is_transition, moves, transition_form, reading};
 
@@ -87,6 +87,22 @@ impl<'a> Transition<'a> {
         match Record::read(bytes)? {
             Record::Transition(transition) => Some(transition),
             _ => None,
+        }
+    }
+
+    // The transition of a record that says one, as is known of an admitted file's: nothing of its form is tried again.
+    pub(crate) fn of_admitted(bytes: &'a [u8]) -> Transition<'a>
+        requires size { length bytes.now ≡ record_size }
+        requires kind { is_transition (reading bytes.now) ≡ true }
+        ensures { reading bytes.now ≡ moves result.place result.label result.targets.now }
+    {
+        let [_, place, label, total, targets @ ..] = bytes else {
+            unreachable!();
+        };
+        Transition {
+            place: usize::from(*place),
+            label: *label,
+            targets: &targets[..usize::from(*total)],
         }
     }
 }
