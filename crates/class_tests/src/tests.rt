@@ -25,7 +25,10 @@ fn four_places(rt: HostRuntime) {
     assert_eq!(rt; classes(&net, &mut list), Ok(1));
     assert_eq!(rt; &list[..], &[0, 0, 0, 3, 9, 9][..]);
     let mut short = [9; 3];
-    assert_eq!(rt; classes(&net, &mut short), Err(Fault::plain(Refusal::ShortList)));
+    assert_eq!(rt;
+        classes(&net, &mut short),
+        Err(Fault::plain(Refusal::ShortList))
+    );
     assert_eq!(rt; &short[..], &[9, 9, 9][..]);
 }
 

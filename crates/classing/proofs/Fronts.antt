@@ -12,8 +12,8 @@ module _ (n : ℕ) (xs ys : List ℕ) (a : n ≤ length xs) (b : n ≤ length ys
   fronts_equal h =
       ext_get_or 0 (take n xs) (take n ys) (length-take-le n xs a ∙ sym (length-take-le n ys b))
       (λ i l. (
-          let k : i < n = omega (arith, length-take-le n xs a) in
-          get_or-take n xs i 0 k ∙ (Decides-eqb (get_or xs i 0) (get_or ys i 0)).0 (h i k) ∙ sym (get_or-take n ys i 0 k)))
+      let k : i < n = omega (arith, length-take-le n xs a) in
+      get_or-take n xs i 0 k ∙ (Decides-eqb (get_or xs i 0) (get_or ys i 0)).0 (h i k) ∙ sym (get_or-take n ys i 0 k)))
 
   equal_fronts : take n xs ≡ take n ys → (k : ℕ) → k < n → eqb (get_or xs k 0) (get_or ys k 0) ≡ true
   equal_fronts e k l =

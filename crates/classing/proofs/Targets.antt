@@ -1,6 +1,6 @@
 -- The targets of a transition, found one token after another.
 use Rattle.std.proofs.Common.{◌≡◌, ℕ, suc, ◌+◌, ◌-◌, ◌<◌, ◌≤◌, cond, eqb, List, length, get_or, set, refl, ap, ◌∙◌, inl, inr, arith, length-set, get_or-set_other, get_or-set_same}
-use Rattle.std.proofs.lemmas.Bool.{cases_eq, cases_lt, cases_order, eq-eqb, ne_eqb}
+use Rattle.std.proofs.lemmas.Bool.{cases_eq, cases_lt, eq-eqb, ne_eqb}
 use Rattle.net.specs.Meaning.{Meaning, transition, count_of, total_of}
 use Rattle.net.specs.Limits.{Lawful}
 use Rattle.team.specs.Below.{tally}
@@ -18,22 +18,28 @@ pub record Spelling (w n : ℕ) (puts ts : List ℕ) (found p left : ℕ) : Type
   pub free : (j : ℕ) → found ≤ j → j < w → get_or ts j 0 ≡ no_target
   pub known : (j : ℕ) → j < found → get_or ts j 0 < n
 
+-- the tokens on the places below p are spelled by the first `found` targets
+pub record Spelled (w n : ℕ) (puts ts : List ℕ) (found p : ℕ) : Type 0 where
+  pub long : length ts ≡ w
+  pub place : p ≤ n
+  pub reached : found ≡ tally p (λ i. get_or puts i 0)
+  pub before : (i : ℕ) → i < p → times w ts i ≡ get_or puts i 0
+  pub after : (i : ℕ) → p ≤ i → i < n → times w ts i ≡ 0
+  pub free : (j : ℕ) → found ≤ j → j < w → get_or ts j 0 ≡ no_target
+  pub known : (j : ℕ) → j < found → get_or ts j 0 < n
+
 module _ (w n : ℕ) (few : n ≤ no_target) (puts ts : List ℕ) where
-  pub spell_none : length ts ≡ w → 0 < n → ((j : ℕ) → j < w → get_or ts j 0 ≡ no_target) → (left : ℕ) → left ≡ get_or puts 0 0 → Spelling w n puts ts 0 0 left
-  spell_none long l h left e =
+  pub spell_none : length ts ≡ w → ((j : ℕ) → j < w → get_or ts j 0 ≡ no_target) → Spelled w n puts ts 0 0
+  spell_none long h =
       record {
         long = long;
-        place = l;
+        place = omega arith;
         reached = omega arith;
         before = λ i k. absurd (omega arith);
-        here = omega (arith, none 0 l);
-        after = λ i _ k. none i k;
+        after = λ i _ k. tally_zero w (λ j. cond (eqb i (get_or ts j 0)) 1 0) (λ j r. ap (λ b. cond {A = ℕ} b 1 0) (ne_eqb i (get_or ts j 0) (λ s. absurd (omega (arith, h j r)))));
         free = λ j _ k. h j k;
         known = λ j k. absurd (omega arith);
       }
-    where
-      none : (i : ℕ) → i < n → times w ts i ≡ 0
-      none i k = tally_zero w (λ j. cond (eqb i (get_or ts j 0)) 1 0) (λ j r. ap (λ b. cond {A = ℕ} b 1 0) (ne_eqb i (get_or ts j 0) (λ s. absurd (omega (arith, h j r)))))
 
   module _ (found p left : ℕ) (S : Spelling w n puts ts found p left) where
     -- one more token on p
@@ -64,33 +70,45 @@ module _ (w n : ℕ) (few : n ≤ no_target) (puts ts : List ℕ) where
               | inr d ↦ rw (get_or-set_other ts found j p 0 d) (S.known j (omega arith))
             ]
 
-    -- while tokens are missing, there is a next place
-    pub spell_room : found < tally n (λ i. get_or puts i 0) → left ≡ 0 → p + 1 < n
-    spell_room h z =
-        elim (cases_eq (suc p) n) [
+    pub spell_fits : found + left ≤ tally n (λ i. get_or puts i 0)
+    spell_fits = omega (arith, S.reached, tally_grows n (suc p) (λ i. get_or puts i 0) S.place)
+
+    -- all tokens on p are spelled
+    pub spell_end : left ≡ 0 → Spelled w n puts ts found (p + 1)
+    spell_end z =
+        let s : p + 1 ≡ suc p = omega arith in
+        record {
+          long = S.long;
+          place = omega (arith, S.place);
+          reached = rw s (omega (arith, S.reached));
+          before = λ i k. elim (cases_eq i p) [ inl e ↦ rw e (omega (arith, S.here)) | inr d ↦ S.before i (omega arith) ];
+          after = λ i k h. S.after i (omega arith) h;
+          free = S.free;
+          known = S.known;
+        }
+
+  module _ (found p : ℕ) (S : Spelled w n puts ts found p) where
+    -- while tokens are missing, there is a place to ask
+    pub spell_more_places : found < tally n (λ i. get_or puts i 0) → p < n
+    spell_more_places h =
+        elim (cases_eq p n) [
           | inl e ↦ absurd (omega (arith, S.reached, ap (λ k. tally k (λ i. get_or puts i 0)) e))
           | inr d ↦ omega (arith, S.place)
         ]
 
-    pub spell_on : p + 1 < n → left ≡ 0 → (next : ℕ) → next ≡ get_or puts (p + 1) 0 → Spelling w n puts ts found (p + 1) next
-    spell_on r z next e =
-        let s : p + 1 ≡ suc p = omega arith in
+    -- the tokens on p are left
+    pub spell_begin : p < n → (left : ℕ) → left ≡ get_or puts p 0 → Spelling w n puts ts found p left
+    spell_begin l left e =
         record {
           long = S.long;
-          place = r;
-          reached = (let e' : next ≡ get_or puts (suc p) 0 = rw s at e in rw s (omega (arith, S.reached)));
-          before = λ i k. before' i (omega arith);
-          here = omega (arith, S.after (p + 1) (omega arith) r);
-          after = λ i k v. S.after i (omega arith) v;
+          place = l;
+          reached = omega (arith, S.reached);
+          before = S.before;
+          here = omega (arith, S.after p (omega arith) l);
+          after = λ i k h. S.after i (omega arith) h;
           free = S.free;
           known = S.known;
         }
-      where
-        before' : (i : ℕ) → i ≤ p → times w ts i ≡ get_or puts i 0
-        before' i k = elim (cases_eq i p) [ inl e ↦ rw e (omega (arith, S.here)) | inr d ↦ S.before i (omega arith) ]
-
-    pub spell_fits : found + left ≤ tally n (λ i. get_or puts i 0)
-    spell_fits = omega (arith, S.reached, tally_grows n (suc p) (λ i. get_or puts i 0) S.place)
 
     pub spell_all : tally n (λ i. get_or puts i 0) ≤ found → Spells w n puts ts
     spell_all h =
@@ -99,15 +117,11 @@ module _ (w n : ℕ) (few : n ≤ no_target) (puts ts : List ℕ) where
           known = λ j l. elim (cases_lt j found) [ inl k ↦ inl (S.known j k) | inr k ↦ inr (S.free j k l) ];
         }
       where
-        none : left ≡ 0
-        none = omega (arith, spell_fits)
-
         each' : (i : ℕ) → i < n → times w ts i ≡ get_or puts i 0
         each' i l =
-            elim (cases_order i p) [
-              | inl e ↦ rw e (omega (arith, S.here, none))
-              | inr (inl k) ↦ S.before i k
-              | inr (inr k) ↦ omega (arith, S.after i k l, S.reached, none, tally_past n (suc p) i (λ i. get_or puts i 0) k l)
+            elim (cases_lt i p) [
+              | inl k ↦ S.before i k
+              | inr k ↦ omega (arith, S.after i k l, S.reached, tally_past n p i (λ i. get_or puts i 0) k l)
             ]
 
 -- a transition's total, as the sum over the places

@@ -25,7 +25,11 @@ impl Profile {
 fn class_at(table: &ClassTable, target: u8) -> u8
     ensures { result ≡ class_at table.now.classes target }
 {
-    table.classes.get(usize::from(target)).copied().unwrap_or(NO_TARGET)
+    table
+        .classes
+        .get(usize::from(target))
+        .copied()
+        .unwrap_or(NO_TARGET)
 }
 
 // The profile of one move.

@@ -44,7 +44,9 @@ impl Stage<'_> {
         requires right { q < most_places }
         ensures { result ≡ covers self.now.snapshot.now self.now.profiles.now p q }
     {
-        self.profiles_of(p).iter().all(|profile| self.has(q, profile))
+        self.profiles_of(p)
+            .iter()
+            .all(|profile| self.has(q, profile))
     }
 
     // Whether p and q stay together. Equal profiles in equal order are quick to see.

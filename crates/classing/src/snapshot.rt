@@ -43,18 +43,14 @@ fn targets_of<N: Net>(net: &N, t: usize) -> [u8; WIDTH]
     let mut targets = [NO_TARGET; WIDTH];
     let total = usize::from(net.total(t));
     let mut found: usize = 0;
+    // Kept: a `for` over the places in place of this `while` was proved, with `fill` and without, and then the ring misses the bar that this loop meets.
     let mut p: usize = 0;
-    let mut left = net.tokens(t, 0);
-    // Kept: a `for` over the places with `fill` was proved, and with it the ring or, where empty runs are left out, the random net misses the bar that this loop meets.
     while found < total {
-        if left > 0 {
+        for _ in 0..net.tokens(t, p) {
             targets[found] = p as u8;
             found += 1;
-            left -= 1;
-        } else {
-            p += 1;
-            left = net.tokens(t, p);
         }
+        p += 1;
     }
     targets
 }
