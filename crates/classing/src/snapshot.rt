@@ -5,7 +5,7 @@ ghost use Rattle.net.specs.Limits.{most_total};
 ghost use Rattle.classing.specs.Targets.{Spells};
 ghost use Rattle.classing.specs.Snapshots.{Keeps, NumbersOf, Sound};
 
-use crate::groups::{STARTS, order_of, starts_of};
+use crate::groups::{Placed, STARTS};
 use net::{MOST_PLACES, MOST_TOTAL, MOST_TRANSITIONS, Net};
 
 // A transition puts down so many tokens at most.
@@ -85,8 +85,11 @@ impl Snapshot {
         for t in 0..count {
             moves[t] = ask(net, t);
         }
-        let starts = starts_of(&moves[..count]);
-        let order = order_of(&moves[..count], &starts);
+        let placed = Placed {
+            moves: &moves[..count],
+        };
+        let starts = placed.starts();
+        let order = placed.order(&starts);
         Snapshot {
             places: net.places(),
             count,

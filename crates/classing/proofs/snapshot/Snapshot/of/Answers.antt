@@ -17,8 +17,8 @@ loop-t-preserved g c =
       write_more (λ k x. Keeps m.places (transition m k) x) c.loop-t.moves c.loop-t.t c.ask.result no_move (omega (arith, c.loop-t.invariant.0)) c.loop-t.invariant.1 c.ask.ensures,
     )
 
-pub starts_of-starts-requires : goal.starts_of-starts-requires
-starts_of-starts-requires g c =
+pub invariant_of-placed : goal.invariant_of-placed
+invariant_of-placed g c =
     let m = g.N.Net.meaning c.args.net.now in
     let law = g.N.Net.lawful c.args.net.now in
     let n = c.transitions-count.result in
@@ -46,8 +46,8 @@ invariant_of-result g c =
         few_places = search rules;
         few_moves = omega (arith, law.few_transitions);
         known = λ t l. (let inside = places_known m law c.loop-t.moves (λ k r. c.loop-t.invariant.1 k (omega arith)) t (omega arith) in search rules);
-        grouped = grouped_alike n (place_at (take n c.loop-t.moves)) (place_at c.loop-t.moves) (place_in_front n c.loop-t.moves) c.starts_of-starts.result c.order_of-order.result
-            (rw long at c.order_of-order.ensures);
+        grouped = grouped_alike n (place_at (take n c.loop-t.moves)) (place_at c.loop-t.moves) (place_in_front n c.loop-t.moves) c.starts-starts.result c.order-order.result
+            (rw long at c.order-order.ensures);
       };
     }
 
