@@ -39,7 +39,7 @@ impl<'a> Record<'a> {
     ghost use Rattle.records.specs.Records.{entry_of};
 
     // What the bytes of a record say, or none where they break its form.
-    // Kept: the bytes are a slice with its length required, since the rest of a transition's pattern is a slice too.
+    // Kept: the bytes are a slice whose length each reader requires, since the project takes a record apart as a slice of 8 bytes.
     pub(crate) fn read(bytes: &'a [u8]) -> Option<Record<'a>>
         requires { length bytes.now ≡ record_size }
         ensures { entry_of result ≡ reading bytes.now }
