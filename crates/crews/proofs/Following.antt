@@ -16,7 +16,7 @@ use Rattle.crews.specs.Calls.{not_ready}
 use Rattle.crews.specs.Counting.{DiffersAt, Found}
 use Rattle.crews.specs.Following.{unlike, overfull, followed, FitsBy}
 use Rattle.crews.specs.Tally.{Step, followed_by}
-use Rattle.crews.specs.Sides.{number_of, across_from}
+use Rattle.crews.specs.Sides.{side_number, across_from}
 use Rattle.crews.specs.Shows.{Holds, Shows, Steps, Ready, LaidOut, table_on, with_table}
 use Rattle.crews.specs.declared.bench.Bench.{Bench}
 use Rattle.crews.specs.declared.crew.Crew.{Crew}
@@ -35,19 +35,19 @@ use Rattle.crews.proofs.Tables.{FrontOf, front_of_holds, front_of_take, holds_su
 
 -- ## Both sides
 
-shows_across : {N : Type 0} (m : Meaning) (b : Bench N) (s : ℕ) (side : Side) (z : Crew) (c : Crews) → s ≡ number_of side → z ≡ table_on b (across_from side) → Shows m b c
+shows_across : {N : Type 0} (m : Meaning) (b : Bench N) (s : ℕ) (side : Side) (z : Crew) (c : Crews) → s ≡ side_number side → z ≡ table_on b (across_from side) → Shows m b c
     → Holds m.places z.counts (across c s)
 shows_across m b s side z c es ez h = rw (es, ez) (by_side side)
   where
-    by_side : (side : Side) → Holds m.places (table_on b (across_from side)).counts (across c (number_of side))
+    by_side : (side : Side) → Holds m.places (table_on b (across_from side)).counts (across c (side_number side))
     by_side Left = h.right
     by_side Right = h.left
 
-shows_both : {N : Type 0} (m : Meaning) (b b' : Bench N) (s : ℕ) (side : Side) (x w : Crew) (xs ys : List ℕ) → s ≡ number_of side
+shows_both : {N : Type 0} (m : Meaning) (b b' : Bench N) (s : ℕ) (side : Side) (x w : Crew) (xs ys : List ℕ) → s ≡ side_number side
     → b' ≡ with_table (with_table b side x) (across_from side) w → Holds m.places x.counts xs → Holds m.places w.counts ys → Shows m b' (both s xs ys)
 shows_both m b b' s side x w xs ys es eb hx hw = rw (es, eb) (by_side side)
   where
-    by_side : (side : Side) → Shows m (with_table (with_table b side x) (across_from side) w) (both (number_of side) xs ys)
+    by_side : (side : Side) → Shows m (with_table (with_table b side x) (across_from side) w) (both (side_number side) xs ys)
     by_side Left = record { left = hx; right = hw }
     by_side Right = record { left = hw; right = hx }
 
@@ -127,14 +127,14 @@ module _ {N : Type 0} (m : Meaning) (b : Bench N) (s t : ℕ) (side : Side) (y z
       front_side : FrontOf m.places y.counts (on_side fronts s)
       front_side = rw (ready.number, ey) (by_side side)
         where
-          by_side : (side : Side) → FrontOf m.places (table_on b side).counts (on_side fronts (number_of side))
+          by_side : (side : Side) → FrontOf m.places (table_on b side).counts (on_side fronts (side_number side))
           by_side Left = front_left
           by_side Right = front_right
 
       front_across : FrontOf m.places z.counts (across fronts s)
       front_across = rw (ready.number, ez) (by_side side)
         where
-          by_side : (side : Side) → FrontOf m.places (table_on b (across_from side)).counts (across fronts (number_of side))
+          by_side : (side : Side) → FrontOf m.places (table_on b (across_from side)).counts (across fronts (side_number side))
           by_side Left = front_right
           by_side Right = front_left
 

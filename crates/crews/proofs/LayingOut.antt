@@ -8,6 +8,7 @@ use Rattle.crews.specs.declared.bench.Bench.{Bench}
 use Rattle.crews.specs.declared.crewed.Crewed.{Crewed}
 use Rattle.crews.proofs.Judging.{crews_on}
 
+-- a crew is the front of the table that holds it
 front_is : (n : ℕ) (table crew : List ℕ) → Holds n table crew → take n table ≡ crew
 front_is n table crew h = ap (take n) h.shown ∙ take_at crew _ n h.each
 

@@ -11,7 +11,7 @@ use Rattle.net.proofs.Refusals.{first_front, first_back, free_append}
 use Rattle.crews.specs.Crews.{Crews, on_side, with_side}
 use Rattle.crews.specs.Calls.{unknown, lacking, not_ready, crowded, Meets}
 use Rattle.crews.specs.Tally.{Step, refused, put, taken, moved, counted}
-use Rattle.crews.specs.Sides.{number_of}
+use Rattle.crews.specs.Sides.{side_number}
 use Rattle.crews.specs.Shows.{Holds, Shows, Steps, Ready, table_on, with_table}
 use Rattle.crews.specs.declared.bench.Bench.{Bench}
 use Rattle.crews.specs.declared.crew.Crew.{Crew}
@@ -28,10 +28,10 @@ pub stays : {N : Type 0} (m : Meaning) (b : Bench N) (call : Call) (f : Fault) �
 stays m b call f first = record { same = refl; leads = λ c h. (c, h, refused f (first c h)) }
 
 -- a side that is named and a number below the count meet no reason
-pub free_known : (n s i : ℕ) (side : Side) → s ≡ number_of side → i < n → Free (unknown n s i)
+pub free_known : (n s i : ℕ) (side : Side) → s ≡ side_number side → i < n → Free (unknown n s i)
 free_known n s i side es l = ((λ q. omega (arith, q, es, small side)), ((λ q. omega (arith, q, l)), tt))
   where
-    small : (side : Side) → number_of side ≤ 1
+    small : (side : Side) → side_number side ≤ 1
     small Left = omega arith
     small Right = omega arith
 
@@ -43,7 +43,7 @@ unknown_steps m b call n k s i rest f en rows first =
 
 -- ## Accepted, and refused by what the table holds: y is the table on the side, x the one that comes in its place
 
-module _ {N : Type 0} (m : Meaning) (b : Bench N) (s : ℕ) (side : Side) (y : Crew) (es : s ≡ number_of side) (ey : y ≡ table_on b side) where
+module _ {N : Type 0} (m : Meaning) (b : Bench N) (s : ℕ) (side : Side) (y : Crew) (es : s ≡ side_number side) (ey : y ≡ table_on b side) where
   same_get_or : (p : ℕ) (c : Crews) → p < m.places → Shows m b c → get_or y.counts p 0 ≡ get_or (on_side c s) p 0
   same_get_or p c l h = holds_get_or m.places y.counts (on_side c s) p (shows_side m b s side y c es ey h) l
 

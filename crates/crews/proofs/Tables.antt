@@ -7,7 +7,7 @@ use Rattle.net.specs.Lists.{zeros, sum_append_zeros}
 use Rattle.net.specs.Markings.{fired}
 use Rattle.net.proofs.Markings.{fired_append, length_fired}
 use Rattle.crews.specs.Crews.{Crews, on_side, with_side}
-use Rattle.crews.specs.Sides.{number_of}
+use Rattle.crews.specs.Sides.{side_number}
 use Rattle.crews.specs.Shows.{Holds, Shows, table_on, with_table}
 use Rattle.crews.specs.declared.bench.Bench.{Bench}
 use Rattle.crews.specs.declared.crew.Crew.{Crew}
@@ -58,19 +58,19 @@ front_of_take n table l = record { each = length-take-le n table l; at = λ p k.
 
 -- ## A table of a bench, on the side that the number s names
 
-pub shows_side : {N : Type 0} (m : Meaning) (b : Bench N) (s : ℕ) (side : Side) (y : Crew) (c : Crews) → s ≡ number_of side → y ≡ table_on b side → Shows m b c
+pub shows_side : {N : Type 0} (m : Meaning) (b : Bench N) (s : ℕ) (side : Side) (y : Crew) (c : Crews) → s ≡ side_number side → y ≡ table_on b side → Shows m b c
     → Holds m.places y.counts (on_side c s)
 shows_side m b s side y c es ey h = rw (es, ey) (by_side side)
   where
-    by_side : (side : Side) → Holds m.places (table_on b side).counts (on_side c (number_of side))
+    by_side : (side : Side) → Holds m.places (table_on b side).counts (on_side c (side_number side))
     by_side Left = h.left
     by_side Right = h.right
 
-pub shows_with : {N : Type 0} (m : Meaning) (b b' : Bench N) (s : ℕ) (side : Side) (x : Crew) (c : Crews) (xs : List ℕ) → s ≡ number_of side → b' ≡ with_table b side x → Shows m b c
+pub shows_with : {N : Type 0} (m : Meaning) (b b' : Bench N) (s : ℕ) (side : Side) (x : Crew) (c : Crews) (xs : List ℕ) → s ≡ side_number side → b' ≡ with_table b side x → Shows m b c
     → Holds m.places x.counts xs → Shows m b' (with_side c s xs)
 shows_with m b b' s side x c xs es eb h k = rw (es, eb) (by_side side)
   where
-    by_side : (side : Side) → Shows m (with_table b side x) (with_side c (number_of side) xs)
+    by_side : (side : Side) → Shows m (with_table b side x) (with_side c (side_number side) xs)
     by_side Left = record { left = k; right = h.right }
     by_side Right = record { left = h.left; right = k }
 

@@ -11,7 +11,7 @@ use Rattle.team.specs.Classes.{ClassedBy}
 use Rattle.crews.specs.Crews.{Crews}
 use Rattle.crews.specs.Counting.{places_of}
 use Rattle.crews.specs.Calls.{unknown, not_ready}
-use Rattle.crews.specs.Sides.{number_of}
+use Rattle.crews.specs.Sides.{side_number}
 use Rattle.crews.specs.Tally.{Step, Event, Run, events}
 use Rattle.crews.specs.declared.bench.Bench.{Bench}
 use Rattle.crews.specs.declared.crew.Crew.{Crew}
@@ -49,7 +49,7 @@ with_table b Right y = record { net = b.net; left = b.left; right = y }
 
 -- The number s names the side, and i is below the count.
 pub record Known (count s i : ℕ) (side : Side) : Type 0 where
-  pub number : s ≡ number_of side
+  pub number : s ≡ side_number side
   pub below : i < count
 
 abbrev pub KnownOr : ℕ → ℕ → ℕ → Result Side Fault → Type 0
@@ -63,7 +63,7 @@ pub record Steps {N : Type 0} (m : Meaning) (b : Bench N) (call : Call) (a : Res
 
 -- The side that s names, where its table has a token on the place of t, or the first of the reasons that it has none.
 pub record Ready {N : Type 0} (m : Meaning) (b : Bench N) (s t : ℕ) (side : Side) : Type 0 where
-  pub number : s ≡ number_of side
+  pub number : s ≡ side_number side
   pub known : t < count_of m
   pub token : 1 ≤ slice_index (table_on b side).counts (transition m t).place
 

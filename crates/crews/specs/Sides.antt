@@ -6,9 +6,10 @@ use Rattle.net.specs.declared.refusal.Fault.{Fault}
 use Rattle.crews.specs.declared.side.Side.{Side}
 use Rattle.crews.specs.declared.side.Side.TheVariants.{Left, Right}
 
-abbrev pub number_of : Side → ℕ
-number_of Left = 0
-number_of Right = 1
+-- the number by which callers name a side
+abbrev pub side_number : Side → ℕ
+side_number Left = 0
+side_number Right = 1
 
 -- the side across
 abbrev pub across_from : Side → Side
@@ -17,5 +18,5 @@ across_from Right = Left
 
 -- the number s names the side, or it is refused, since it names none
 abbrev pub NamesSide : ℕ → Result Side Fault → Type 0
-NamesSide s (Ok side) = s ≡ number_of side
+NamesSide s (Ok side) = s ≡ side_number side
 NamesSide s (Err f) = First (when UnknownSide (1 < s) ∷ []) f
