@@ -11,7 +11,7 @@ use net::MOST_LABEL;
 pub(crate) fn times_in(targets: &[u8; WIDTH], x: u8) -> u8
     ensures { result ≡ times most_total targets.now x }
 {
-    // Kept: `filter` and `count` in place of this loop were proved, and with them a listed net of many transitions took almost twice as long to class.
+    // Kept: `filter` and `count` in place of this loop were proved, and with them a listed net of many transitions took half as long again to class.
     let mut k: u8 = 0;
     for target in targets {
         if x == *target {

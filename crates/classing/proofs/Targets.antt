@@ -2,7 +2,7 @@
 use Rattle.std.proofs.Common.{◌≡◌, ℕ, suc, ◌+◌, ◌-◌, ◌<◌, ◌≤◌, cond, eqb, List, length, get_or, set, refl, ap, ◌∙◌, inl, inr, arith, length-set, get_or-set_other, get_or-set_same}
 use Rattle.std.proofs.lemmas.Bool.{cases_eq, cases_lt, eq-eqb, ne_eqb}
 use Rattle.net.specs.Meaning.{Meaning, transition, count_of, total_of}
-use Rattle.net.specs.Limits.{Lawful}
+use Rattle.net.specs.Limits.{Lawful, most_total}
 use Rattle.team.specs.Below.{tally}
 use Rattle.team.proofs.Sums.{tally_zero, tally_more, tally_grows, tally_past, sum_by_tally}
 use Rattle.classing.specs.Targets.{no_target, times, Spells}
@@ -70,7 +70,7 @@ module _ (w n : ℕ) (few : n ≤ no_target) (puts ts : List ℕ) where
               | inr d ↦ rw (get_or-set_other ts found j p 0 d) (S.known j (omega arith))
             ]
 
-    pub spell_fits : found + left ≤ tally n (λ i. get_or puts i 0)
+    spell_fits : found + left ≤ tally n (λ i. get_or puts i 0)
     spell_fits = omega (arith, S.reached, tally_grows n (suc p) (λ i. get_or puts i 0) S.place)
 
     -- all tokens on p are spelled
@@ -128,3 +128,14 @@ module _ (w n : ℕ) (few : n ≤ no_target) (puts ts : List ℕ) where
 pub total_tally : (m : Meaning) → Lawful m → (t : ℕ) → t < count_of m → total_of (transition m t) ≡ tally m.places (λ i. get_or (transition m t).puts i 0)
 total_tally m law t l =
     sum_by_tally (λ x. x) (transition m t).puts 0 ∙ ap (λ k. tally k (λ i. get_or (transition m t).puts i 0)) (law.each t l).targets_known
+
+-- the targets that are found and those left on the place keep within the width
+pub targets_fit : (m : Meaning) → Lawful m → (t : ℕ) → t < count_of m → (ts : List ℕ) (found p left : ℕ) → Spelling most_total m.places (transition m t).puts ts found p left
+    → found + left ≤ most_total
+targets_fit m law t l ts found p left S =
+    omega (
+      arith,
+      total_tally m law t l,
+      (law.each t l).total_small,
+      spell_fits most_total m.places (omega (arith, law.few_places)) (transition m t).puts ts found p left S,
+    )

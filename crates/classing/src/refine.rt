@@ -1,10 +1,8 @@
 // Partition refinement over a snapshot, stage by stage.
 ghost use Rattle.std.specs.Prelude.{◌≡◌, ℕ, ◌<◌, ◌≤◌, Decides, slice_index};
-ghost use Rattle.std.specs.List.{list_any};
 ghost use Rattle.net.specs.Limits.{most_places};
 ghost use Rattle.team.specs.Stages.{rounds as rounds_of};
 ghost use Rattle.team.specs.Classes.{class_of, ClassedBy};
-ghost use Rattle.classing.specs.Profiles.{equal};
 ghost use Rattle.classing.specs.Staying.{profiles_at, covers, Stays, LowestStay};
 
 use crate::profile::{Profile, describe_all};
@@ -30,23 +28,16 @@ impl Stage<'_> {
         &profiles[self.snapshot.starts[place]..self.snapshot.starts[place + 1]]
     }
 
-    // Whether some move of q has the profile.
-    fn has(&self, q: usize, profile: &Profile) -> bool
-        requires { q < most_places }
-        ensures { result ≡ list_any (λ one. equal one profile.now) (profiles_at self.now.snapshot.now self.now.profiles.now q) }
-    {
-        self.profiles_of(q).contains(profile)
-    }
-
     // Whether the profile of each move of p is that of some move of q.
     fn covers(&self, p: usize, q: usize) -> bool
         requires left { p < most_places }
         requires right { q < most_places }
         ensures { result ≡ covers self.now.snapshot.now self.now.profiles.now p q }
     {
+        let others = self.profiles_of(q);
         self.profiles_of(p)
             .iter()
-            .all(|profile| self.has(q, profile))
+            .all(|profile| others.contains(profile))
     }
 
     // Whether p and q stay together. Equal profiles in equal order are quick to see.
