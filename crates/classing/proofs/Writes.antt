@@ -14,6 +14,11 @@ write_more P xs t x d l below here k h =
       | inr n ↦ rw (get_or-set_other xs t k x d n) (below k (omega arith))
     ]
 
+-- what holds of each entry of the front holds of it whatever stands behind
+pub front_holds : {X : Type 0} (P : ℕ → X → Type 0) (xs rest : List X) (d : X) → ((k : ℕ) → k < length xs → P k (get_or xs k d))
+    → (k : ℕ) → k < length xs → P k (get_or (xs ++ rest) k d)
+front_holds P xs rest d each k l = rw (get_or_append_left xs rest d k l) (each k l)
+
 -- the first n entries are those of f, and the others as they were
 pub written_whole : (f : ℕ → ℕ) (n : ℕ) (before after : List ℕ) → length after ≡ length before → n ≤ length before
     → ((p : ℕ) → p < n → get_or after p 0 ≡ f p) → ((p : ℕ) → n ≤ p → get_or after p 0 ≡ get_or before p 0) → after ≡ map f (range_with_len 0 n) ++ drop n before

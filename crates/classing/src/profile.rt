@@ -52,8 +52,7 @@ pub(crate) fn describe_all(
 )
     ensures { Described snapshot.now table.now.classes profiles.new }
 {
-    // Kept: the profiles are written by index, since a contract knows nothing of what is written through `iter_mut`.
-    for k in 0..snapshot.count {
-        profiles[k] = describe(&snapshot.moves[usize::from(snapshot.order[k])], table);
+    for (k, profile) in profiles[..snapshot.count].iter_mut().enumerate() {
+        *profile = describe(&snapshot.moves[usize::from(snapshot.order[k])], table);
     }
 }

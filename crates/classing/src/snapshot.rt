@@ -1,9 +1,9 @@
 // A snapshot of a net: all that the refinement asks, taken once.
-ghost use Rattle.std.specs.Prelude.{◌<◌};
+ghost use Rattle.std.specs.Prelude.{ℕ, ◌<◌, slice_index_or};
 ghost use Rattle.net.specs.Meaning.{count_of, transition};
 ghost use Rattle.net.specs.Limits.{most_total};
 ghost use Rattle.classing.specs.Targets.{Spells};
-ghost use Rattle.classing.specs.Snapshots.{Keeps, NumbersOf, Sound};
+ghost use Rattle.classing.specs.Snapshots.{Keeps, NumbersOf, Sound, no_move};
 
 use crate::groups::{Placed, STARTS};
 use net::{MOST_PLACES, MOST_TOTAL, MOST_TRANSITIONS, Net};
@@ -68,6 +68,22 @@ fn ask<N: Net>(net: &N, t: usize) -> Move
     }
 }
 
+// The transitions of the net. What stands behind them says nothing.
+fn ask_all<N: Net>(net: &N) -> [Move; MOST_TRANSITIONS]
+    ensures { (t : ℕ) → t < count_of (N.Net.meaning net.now) → Keeps (N.Net.meaning net.now).places (transition (N.Net.meaning net.now) t) (slice_index_or result t no_move) }
+{
+    let mut moves = [Move {
+        place: 0,
+        label: 0,
+        targets: [NO_TARGET; WIDTH],
+    }; MOST_TRANSITIONS];
+    let count = net.transitions();
+    for (t, this) in moves[..count].iter_mut().enumerate() {
+        *this = ask(net, t);
+    }
+    moves
+}
+
 impl Snapshot {
     ghost use Rattle.classing.specs.Shown.{Shows};
 
@@ -76,15 +92,7 @@ impl Snapshot {
         ensures { Shows (N.Net.meaning net.now) result }
     {
         let count = net.transitions();
-        let mut moves = [Move {
-            place: 0,
-            label: 0,
-            targets: [NO_TARGET; WIDTH],
-        }; MOST_TRANSITIONS];
-        // Kept: the moves are written by index, since a contract knows nothing of what is written through `iter_mut`.
-        for t in 0..count {
-            moves[t] = ask(net, t);
-        }
+        let moves = ask_all(net);
         let placed = Placed {
             moves: &moves[..count],
         };
