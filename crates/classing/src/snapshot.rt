@@ -12,7 +12,7 @@ use net::{MOST_PLACES, MOST_TOTAL, MOST_TRANSITIONS, Net};
 pub const WIDTH: usize = MOST_TOTAL as usize;
 
 // What stands in place of a target where there is no token.
-// Kept: a record file has the same byte there, and plain bytes sort and compare with no type of their own.
+// Kept: `Option<u8>` would be no plainer: what is sorted and compared are bytes, and a record file has the same byte there.
 pub const NO_TARGET: u8 = 255;
 
 // A transition: its place, its label, and a target for each token that it puts down.

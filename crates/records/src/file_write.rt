@@ -22,7 +22,7 @@ fn targets_of<N: Net>(net: &N, t: usize) -> [u8; RECORD_TARGETS]
 {
     let mut targets = [NO_TARGET; RECORD_TARGETS];
     let mut used = 0;
-    // Kept: the targets are written by index, since a contract knows no element of an array behind the borrow of `iter_mut`.
+    // Kept: a walk of the targets would be no plainer: those of a place are a run of its tokens, which `fill` writes from the end of the one before.
     for p in 0..net.places() {
         let count = usize::from(net.tokens(t, p));
         targets[used..used + count].fill(p as u8);
@@ -74,7 +74,7 @@ pub fn write<N: Net>(net: &N, out: &mut [u8]) -> Result<usize, Fault>
     if out.len() < RECORD_SIZE * count {
         return Err(Fault::plain(Refusal::ShortList));
     }
-    // Kept: the records are written by index, since a contract knows no element of a slice behind the borrow of `chunks_exact_mut`.
+    // Kept: the records are written by their numbers, since no contract knows what is written through `chunks_exact_mut`, which was tried.
     for k in 0..count {
         let bytes = record_of(net, k);
         out[RECORD_SIZE * k..RECORD_SIZE * k + RECORD_SIZE].copy_from_slice(&bytes);

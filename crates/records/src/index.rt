@@ -14,7 +14,7 @@ pub(crate) fn index_of(bytes: &[u8]) -> [u16; MOST_TRANSITIONS]
 {
     let mut count = 0;
     let mut starts = [0u16; MOST_TRANSITIONS];
-    // Kept: the numbers are written by index, since a contract knows no element of an array behind the borrow of `iter_mut`.
+    // Kept: only some records are transitions, so that their numbers are written by a count of its own; what a `zip` with `iter_mut` writes, no contract knows.
     for k in 0..bytes.len() / RECORD_SIZE {
         if Transition::read(record_at(bytes, k)).is_some() {
             starts[count] = k as u16;
