@@ -33,7 +33,7 @@ pub fn tokens_in<N: Net>(net: &N, table: &ClassTable, t: usize, class: u8) -> us
     ensures { TokensIn (N.Net.meaning net.now) table.now.classes t class result }
 {
     let mut sum: usize = 0;
-    // Kept: the net is asked by number, and `sum` of a chain asks for a bound that this loop's invariant has.
+    // Kept: a chain by `filter`, `map` and `sum` was tried, and neither the bound that `sum` asks for nor the result was proved.
     for p in 0..net.places() {
         if table.class_of(p) == class {
             sum += usize::from(net.tokens(t, p));
