@@ -32,14 +32,14 @@ module _ {N : Type 0} (m : Meaning) (b : Bench N) (law : Lawful m) (x : Crewed) 
     same = refl;
   }
 
-  pub says_alike : (used : ℕ) (after : List Swap) → Found x None → used ≡ length (swap_list (table_of x) (places_of x))
-      → after ≡ swap_list (table_of x) (places_of x) ++ drop used before → Written m c before after used
-  says_alike used after level count written = record {
+  pub says_alike : (used : ℕ) (list : List Swap) → Found x None → list ≡ swap_list (table_of x) (places_of x) → used ≡ length list → Written m c before (list ++ drop used before) used
+  says_alike used list level listed count = record {
     free = ((λ short. omega (arith, short, room)), tt);
-    list = swap_list (table_of x) m.places;
-    alike = subst (λ a. AlikeBy m a (swap_list (table_of x) m.places)) (shown_is m b x c laid shows) (judged_alike m law x laid.places laid.classed level);
-    count = count ∙ ap (λ (k : ℕ). length (swap_list (table_of x) k)) laid.places;
-    now_is = written ∙ ap (λ (k : ℕ). swap_list (table_of x) k ++ drop used before) laid.places;
+    list = list;
+    alike = subst (AlikeBy m c) (sym (listed ∙ ap (λ (k : ℕ). swap_list (table_of x) k) laid.places))
+        (subst (λ a. AlikeBy m a (swap_list (table_of x) m.places)) (shown_is m b x c laid shows) (judged_alike m law x laid.places laid.classed level));
+    count = count;
+    now_is = refl;
   }
 
 -- ## A comparison into the first entries of a list of 256 is one into a list with that room

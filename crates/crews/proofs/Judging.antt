@@ -11,7 +11,6 @@ use Rattle.team.specs.Classes.{alike, class_count, Even, Lowest, ClassedBy, InCl
 use Rattle.team.specs.Pairings.{Greedy, greedy}
 use Rattle.team.proofs.Sums.{tally_cong, tally_some, cond_some}
 use Rattle.team.proofs.Greedy.{greedy_is}
-use Rattle.team.proofs.Cells.{greedy_short}
 use Rattle.team.proofs.Classes.{alike_decides, counts_tell, paired_even, even_paired}
 use Rattle.team.proofs.Theorems.{greedy_is_greatest}
 use Rattle.crews.specs.Crews.{Crews}
@@ -21,7 +20,7 @@ use Rattle.crews.specs.Pairs.{table_of}
 use Rattle.crews.specs.Verdicts.{AlikeBy, ApartBy}
 use Rattle.crews.specs.declared.crewed.Crewed.{Crewed}
 use Rattle.crews.specs.declared.swap.Difference.{Difference}
-use Rattle.crews.proofs.SwapLists.{length_swaps}
+use Rattle.crews.proofs.SwapLists.{swap_list_short}
 
 module _ (m : Meaning) (law : Lawful m) (cs : List ℕ) (classed : ClassedBy m cs) where
   -- two places have one entry exactly when they are bisimilar
@@ -78,7 +77,7 @@ module _ (m : Meaning) (law : Lawful m) (x : Crewed) (places : places_of x ≡ m
         table = T;
         greatest = (greedy_is_greatest m law x.left.now x.right.now even).greatest T rows;
         listed = refl;
-        short = omega (arith, length_swaps T m.places m.places, greedy_short m.places (alike m) x.left.now x.right.now T rows);
+        short = swap_list_short m.places (alike m) x.left.now x.right.now T rows;
       }
 
   module _ (d : Difference) (at : DiffersAt x d) where

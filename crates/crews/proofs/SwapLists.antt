@@ -1,13 +1,12 @@
 -- Swap lists, entry by entry: how long they are, and one entry more.
-use Rattle.std.proofs.Common.{◌≡◌, ℕ, zero, suc, ◌+◌, ◌*◌, ◌<◌, ◌≤◌, Bool, true, false, cond, ltb, List, [], ◌∷◌, ◌++◌, length, get_or, drop, set, sym, refl, ap, ◌∙◌, append_assoc, arith, length-append}
-use Rattle.std.proofs.lemmas.List.{set_at, drop_more}
+use Rattle.std.proofs.Common.{◌≡◌, ℕ, zero, suc, ◌+◌, ◌*◌, ◌<◌, ◌≤◌, Bool, true, false, cond, ltb, List, [], ◌∷◌, ◌++◌, length, refl, ap, ◌∙◌, arith, length-append}
 use Rattle.std.proofs.lemmas.Bool.{lt-ltb, le-ltb}
 use Rattle.team.specs.Below.{tally}
 use Rattle.team.specs.Relations.{Relation}
 use Rattle.team.specs.Pairings.{Cells, Greedy}
 use Rattle.team.proofs.Sums.{tally_front}
 use Rattle.team.proofs.Cells.{greedy_short}
-use Rattle.crews.specs.Swaps.{swap_at, row_swaps, swaps}
+use Rattle.crews.specs.Swaps.{swap_at, row_swaps, swaps, swap_list}
 use Rattle.crews.specs.declared.swap.Swap.{Swap}
 
 -- ## Steps
@@ -15,22 +14,11 @@ use Rattle.crews.specs.declared.swap.Swap.{Swap}
 pub row_swaps_more : (T : Cells) (p q : ℕ) → row_swaps T p (q + 1) ≡ row_swaps T p q ++ swap_at T p q
 row_swaps_more T p q = let e : q + 1 ≡ suc q = omega arith in rw e refl
 
-pub swaps_more : (T : Cells) (n p : ℕ) → swaps T n (p + 1) ≡ swaps T n p ++ row_swaps T p n
-swaps_more T n p = let e : p + 1 ≡ suc p = omega arith in rw e refl
-
 pub swap_some : (T : Cells) (p q : ℕ) → 0 < T p q → swap_at T p q ≡ record { left = p; right = q; count = T p q } ∷ []
 swap_some T p q h = ap (λ b. cond b (record { left = p; right = q; count = T p q } ∷ []) []) (lt-ltb 0 (T p q) h)
 
 pub swap_none : (T : Cells) (p q : ℕ) → T p q ≤ 0 → swap_at T p q ≡ []
 swap_none T p q h = ap (λ b. cond b (record { left = p; right = q; count = T p q } ∷ []) []) (le-ltb 0 (T p q) h)
-
--- one entry more behind those that are written
-pub set_push : {X : Type 0} (front before : List X) (used : ℕ) (e : X) → length front ≡ used → used < length before
-    → set (front ++ drop used before) used e ≡ (front ++ e ∷ []) ++ drop (used + 1) before
-set_push front before used e l h =
-    ap (λ xs. set (front ++ xs) used e) (drop_more before used e h)
-    ∙ set_at front (get_or before used e) (drop (used + 1) before) e used l
-    ∙ sym (append_assoc front (e ∷ []) (drop (used + 1) before))
 
 -- ## Lengths
 
@@ -44,11 +32,11 @@ length_swap T p q = by_test (ltb 0 (T p q))
     by_test true = refl
     by_test false = refl
 
-pub length_row_swaps : (T : Cells) (p q : ℕ) → length (row_swaps T p q) ≡ tally q (above T p)
+length_row_swaps : (T : Cells) (p q : ℕ) → length (row_swaps T p q) ≡ tally q (above T p)
 length_row_swaps T p zero = refl
 length_row_swaps T p (suc q) = length-append (row_swaps T p q) (swap_at T p q) ∙ omega (arith, length_row_swaps T p q, length_swap T p q)
 
-pub length_swaps : (T : Cells) (n p : ℕ) → length (swaps T n p) ≡ tally p (λ i. tally n (above T i))
+length_swaps : (T : Cells) (n p : ℕ) → length (swaps T n p) ≡ tally p (λ i. tally n (above T i))
 length_swaps T n zero = refl
 length_swaps T n (suc p) = length-append (swaps T n p) (row_swaps T p n) ∙ omega (arith, length_swaps T n p, length_row_swaps T p n)
 
@@ -58,3 +46,7 @@ pub swaps_room : (n : ℕ) (E : Relation) (xs ys : List ℕ) (T : Cells) → Gre
 swaps_room n E xs ys T g p q l k h =
     let here : above T p q ≡ 1 = ap (λ b. cond b 1 0) (lt-ltb 0 (T p q) h) in
     omega (arith, here, greedy_short n E xs ys T g, tally_front n p (λ i. tally n (above T i)) l, tally_front n q (above T p) k, length_swaps T n p, length_row_swaps T p q)
+
+-- the whole list has 2 n entries at most
+pub swap_list_short : (n : ℕ) (E : Relation) (xs ys : List ℕ) (T : Cells) → Greedy n E xs ys T → length (swap_list T n) ≤ 2 * n
+swap_list_short n E xs ys T g = omega (arith, length_swaps T n n, greedy_short n E xs ys T g)

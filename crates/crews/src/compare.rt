@@ -17,7 +17,9 @@ impl<N: Net> Bench<N> {
         match crewed.difference() {
             Some(d) => Ok(Verdict::Apart(d)),
             None => {
-                let used = crewed.pair(list);
+                let swaps = crewed.pair();
+                let used = swaps.len();
+                list[..used].copy_from_slice(&swaps);
                 Ok(Verdict::Alike { used })
             }
         }

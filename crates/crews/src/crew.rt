@@ -28,6 +28,7 @@ impl Crew {
     }
 
     // The tokens on a place.
+    // Kept: that a place is below 128, and that the net has a transition, is asked of callers: a type for either asks the same at each of its literals, and clauses would name the net and the number by longer paths.
     pub(crate) fn at(&self, place: usize) -> u16
         requires { place < 128 }
         ensures { result ≡ slice_index self.now.counts place }

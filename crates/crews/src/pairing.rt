@@ -1,28 +1,29 @@
 // The greatest pairing of two crews, cell by cell.
-ghost use Rattle.std.specs.Prelude.{◌≡◌, ℕ, ◌+◌, ◌*◌, ◌<◌, ◌≤◌, min, ◌++◌, length, drop, if◌then◌else◌, slice_index};
+ghost use Rattle.std.specs.Prelude.{◌≡◌, ℕ, ◌+◌, ◌*◌, ◌<◌, ◌≤◌, ◌++◌, min, if◌then◌else◌, slice_index};
+ghost use Rattle.arrayvec.specs.ArrayVec.{array_vec_len};
 ghost use Rattle.team.specs.Below.{tally};
 ghost use Rattle.crews.specs.Counting.{places_of};
-ghost use Rattle.crews.specs.Swaps.{swaps, swap_list};
-ghost use Rattle.crews.specs.Pairs.{table_of, RowWritten};
+ghost use Rattle.crews.specs.Swaps.{row_swaps, swaps, swap_list};
+ghost use Rattle.crews.specs.Pairs.{table_of};
 
-use crate::Swap;
 use crate::crewed::Crewed;
+use crate::{MOST_SWAPS, Swap};
+use arrayvec::ArrayVec;
 use net::MOST_PLACES;
 
 impl Crewed<'_> {
-    // Writes the swap list of the two crews, and answers how many entries it has.
+    // The swap list of the two crews.
     // By left place and then right, as many tokens as are left are paired where the two places are of one class.
-    pub(crate) fn pair(&self, list: &mut [Swap]) -> usize
-        requires room { 2 * places_of self.now ≤ length list.old }
-        ensures used { result ≡ length (swap_list (table_of self.now) (places_of self.now)) }
-        ensures written { list.new ≡ swap_list (table_of self.now) (places_of self.now) ++ drop result list.old }
+    pub(crate) fn pair(&self) -> ArrayVec<Swap, MOST_SWAPS>
+        ensures listed { result.items ≡ swap_list (table_of self.now) (places_of self.now) }
+        ensures short { array_vec_len result ≤ 2 * places_of self.now }
     {
         let mut taken = [0; MOST_PLACES];
-        let mut used = 0;
+        let mut list = ArrayVec::new();
         for p in 0..self.classes.len() {
-            used = self.pair_row(p, &mut taken, list, used);
+            self.pair_row(p, &mut taken, &mut list);
         }
-        used
+        list
     }
 
     // One row: the tokens on the left place p, paired from the lowest right place on. `taken` are the right tokens that the rows before have taken.
@@ -30,18 +31,16 @@ impl Crewed<'_> {
         &self,
         p: usize,
         taken: &mut [u16; MOST_PLACES],
-        list: &mut [Swap],
-        start: usize,
-    ) -> usize
+        list: &mut ArrayVec<Swap, MOST_SWAPS>,
+    )
         requires row { p < places_of self.now }
         requires columns { (j : ℕ) → j < places_of self.now → slice_index taken.old j ≡ tally p (λ i. table_of self.now i j) }
-        requires begun { start ≡ length (swaps (table_of self.now) (places_of self.now) p) }
-        requires room { 2 * places_of self.now ≤ length list.old }
-        ensures { RowWritten (places_of self.now) (table_of self.now) p start list.old taken.new list.new result }
+        requires begun { list.old.items ≡ swaps (table_of self.now) (places_of self.now) p }
+        ensures columns { (j : ℕ) → j < places_of self.now → slice_index taken.new j ≡ tally (p + 1) (λ i. table_of self.now i j) }
+        ensures appended { list.new.items ≡ list.old.items ++ row_swaps (table_of self.now) p (places_of self.now) }
     {
         let mut have = self.left[p];
-        let mut used = start;
-        // Kept: both lists are written by index, since a contract knows no element of a list that `iter_mut` went through.
+        // Kept: what is taken is written by index, since a contract knows no element of a list that `iter_mut` went through.
         for q in 0..self.classes.len() {
             let k = cell(
                 self.classes[p] == self.classes[q],
@@ -51,15 +50,13 @@ impl Crewed<'_> {
             have -= k;
             taken[q] += k;
             if k > 0 {
-                list[used] = Swap {
+                list.push(Swap {
                     left: p as u8,
                     right: q as u8,
                     count: k,
-                };
-                used += 1;
+                });
             }
         }
-        used
     }
 }
 

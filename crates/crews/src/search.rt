@@ -7,6 +7,7 @@ use classing::{ClassTable, tokens_in};
 use net::{MOST_PLACES, Net};
 
 // The number of a transition that fits t, where there is one: same label, its place in the class of t's place and holding a token of the crew, and equally many tokens put into each class.
+// Kept: that the net has t and u is asked in each contract: a struct of a net and a number could carry it, but clauses would then name both by longer paths, and say of two such structs that their net is the same.
 pub(crate) fn answering<N: Net>(
     net: &N,
     table: &ClassTable,

@@ -40,6 +40,7 @@ pub struct Difference {
 }
 
 // The verdict on two crews.
+// Kept: `Result<usize, Difference>` would call APART an error, and it is as good an answer as ALIKE; callers know the two by these names.
 #[derive(Clone, Copy, PartialEq, Eq, Debug)]
 pub enum Verdict {
     // they can replace each other, by a swap list of so many entries

@@ -1,4 +1,4 @@
-use Rattle.std.proofs.Common.{arith}
+use Rattle.std.proofs.Common.{length, ap, sym, ◌∙◌, arith}
 use Rattle.crews.proofs.Comparing.{says_apart, says_alike}
 use Rattle.crews.proofs.bench.Bench.compare.Goals as goal
 
@@ -11,5 +11,6 @@ returns-in-Some g c x shows =
 pub returns-in-None : goal.returns-in-None
 returns-in-None g c x shows =
     let b = c.args.self.now in
+    let copied = c.copy_from_slice.ensures.after ∙ c.deref.ensures.0 in
     says_alike (g.N.Net.meaning b.net) b (g.N.Net.lawful b.net) c.crewed-crewed.result c.crewed-crewed.ensures c.args.list.now
-    (omega (arith, c.places.ensures, c.if-list-places.false)) x shows c.pair-used.result c.pair-used.new.list c.in-None.ensures c.pair-used.ensures.used c.pair-used.ensures.written
+    (omega (arith, c.places.ensures, c.if-list-places.false)) x shows c.len-used.result c.copy_from_slice.new.self c.in-None.ensures (copied ∙ c.pair-swaps.ensures.listed) (c.len-used.ensures.value ∙ ap length (sym copied))
