@@ -87,7 +87,7 @@ impl Crew {
         let total = net.total(transition);
         let mut counts = self.counts;
         let mut left = total;
-        // Kept: the counts are written by index, since a contract knows no element of a list that `iter_mut` went through.
+        // Kept: `iter_mut` was tried, and where its loop ends before the list, the proof of what it left did not close.
         for place in 0..MOST_PLACES {
             if left == 0 {
                 break;

@@ -40,7 +40,7 @@ impl Crewed<'_> {
         ensures appended { list.new.items ≡ list.old.items ++ row_swaps (table_of self.now) p (places_of self.now) }
     {
         let mut have = self.left[p];
-        // Kept: what is taken is written by index, since a contract knows no element of a list that `iter_mut` went through.
+        // Kept: three lists go in step with the one that is written, and what a `zip` with `iter_mut` writes, no contract knows.
         for q in 0..self.classes.len() {
             let k = cell(
                 self.classes[p] == self.classes[q],

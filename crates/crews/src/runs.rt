@@ -54,7 +54,7 @@ pub fn replay<N: Net + Drop>(
         return Err(Fault::plain(Refusal::ShortList));
     }
     let mut bench = Bench::new(net);
-    // Kept: the answers are written by index, since a contract knows no element of a list that `iter_mut` went through.
+    // Kept: the answers go in step with the calls, and what a `zip` with `iter_mut` writes, no contract knows.
     for (i, call) in calls.iter().enumerate() {
         answers[i] = perform(&mut bench, *call);
     }
