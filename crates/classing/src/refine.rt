@@ -20,6 +20,7 @@ struct Stage<'a> {
 
 impl Stage<'_> {
     // The profiles of the moves of a place.
+    // Kept: that a place is below 128 is asked by each method, since a type for it would be made anew at each turn of the loops over places.
     fn profiles_of(&self, place: usize) -> &[Profile]
         requires { place < most_places }
         ensures { result.now ≡ profiles_at self.now.snapshot.now self.now.profiles.now place }
@@ -102,6 +103,7 @@ impl Partition {
         let mut table = ClassTable::start();
         let mut next = ClassTable::start();
         let mut rounds: usize = 0;
+        // Kept: the stages end where two agree, which no range knows before, and the rounds are what is counted.
         'stages: loop {
             describe_all(&snapshot, &table, &mut profiles);
             let stage = Stage {

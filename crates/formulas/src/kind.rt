@@ -38,6 +38,7 @@ impl TryFrom<u8> for Kind {
 
 impl Kind {
     // The number that stands in a line of the kind.
+    // Kept: `u8::from(kind)` would be no plainer than the name `number`.
     pub fn number(self) -> u8
         ensures { result ≡ number_of self }
     {

@@ -100,6 +100,7 @@ impl<A1: Net, B1: Net> Net for Joined<A1, B1> {
         seam_of(&self.left, &self.right).map_or(0, |seam| seam.transitions)
     }
 
+    // Kept: this and the next three ask each another thing of the parts, and one function for them would take two closures, one for each kind of net.
     fn place(&self, t: usize) -> usize {
         match self.origin(t) {
             Some(Origin::Left(number)) => self.left.place(number),

@@ -59,6 +59,7 @@ fn admit_tokens(tokens: Tokens, spot: usize, seen: Counts) -> Result<Counts, Fau
     if spot >= MOST_RECORDS {
         return Err(Fault::at(Refusal::OverLimit, spot));
     }
+    // Kept: the side is the number that the record has, as in `Tokens`.
     let crew = if tokens.side == 0 {
         seen.left
     } else {

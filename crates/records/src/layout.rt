@@ -2,6 +2,7 @@
 pub const RECORD_SIZE: usize = 8;
 
 // Byte 0 of a record is its kind.
+// Kept: numbers, since the patterns that take a record apart match its bytes by them; what a kind means is a case of `Record`.
 pub(crate) const PLACE_KIND: u8 = 1;
 
 pub(crate) const TRANSITION_KIND: u8 = 2;
@@ -12,6 +13,7 @@ pub(crate) const TOKENS_KIND: u8 = 3;
 pub(crate) const RECORD_TARGETS: usize = 4;
 
 // The byte where a transition record has no target.
+// Kept: a byte of the format, which records are compared with and filled with.
 pub(crate) const NO_TARGET: u8 = 255;
 
 pub const MOST_RECORDS: usize = 2048;
