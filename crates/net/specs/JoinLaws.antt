@@ -84,9 +84,23 @@ pub record Begins (a b : Meaning) (s : Seam) : Type 0 where
   pub left_transitions : s.left_transitions ≡ count_of a
   pub transitions : s.transitions ≡ count_of a + count_of b
 
+-- the seam of two nets, or none where they do not fit
+abbrev pub seam_between : Meaning → Meaning → Option Seam
+seam_between a b =
+    cond (fits a b)
+    (Some (record { left_places = a.places; places = a.places + b.places; left_transitions = count_of a; transitions = count_of a + count_of b }))
+    None
+
 abbrev pub Seamed : Meaning → Meaning → Option Seam → Type 0
 Seamed a b (Some s) = Begins a b s
 Seamed a b None = false ≡ fits a b
+
+pub seamed_between : (a b : Meaning) → Seamed a b (seam_between a b)
+seamed_between a b = by_fit (fits a b) refl
+  where
+    by_fit : (v : Bool) → v ≡ fits a b → Seamed a b (cond v (Some (record { left_places = a.places; places = a.places + b.places; left_transitions = count_of a; transitions = count_of a + count_of b })) None)
+    by_fit true e = record { fit = e; left_places = refl; places = refl; left_transitions = refl; transitions = refl }
+    by_fit false e = e
 
 -- ## Where a transition comes from
 

@@ -1,7 +1,7 @@
 // The joined net: two nets side by side as one.
 ghost use Rattle.std.specs.Prelude.{◌≡◌, ◌+◌, if◌then◌else◌, Ok, Err};
 ghost use Rattle.net.specs.Joins.{joined as join_of, fits as fitting};
-ghost use Rattle.net.specs.JoinLaws.{joined_lawful, Seamed, brought};
+ghost use Rattle.net.specs.JoinLaws.{joined_lawful, seam_between, Seamed, brought};
 ghost use Rattle.net.specs.Meaning.{transition};
 ghost use Rattle.net.specs.Refusals.{plain as plain_fault};
 ghost use Rattle.net.specs.declared.refusal.Refusal.TheVariants.{Unfit};
@@ -29,7 +29,7 @@ struct Seam {
 
 // The seam of two nets, or none where they do not fit.
 fn seam_of<A1: Net, B1: Net>(left: &A1, right: &B1) -> Option<Seam>
-    ensures { Seamed (A1.Net.meaning left.now) (B1.Net.meaning right.now) result }
+    ensures { result ≡ seam_between (A1.Net.meaning left.now) (B1.Net.meaning right.now) }
 {
     let left_places = left.places();
     let places = left_places + right.places();
@@ -59,6 +59,9 @@ enum Origin {
 pub struct Joined<A1: Net, B1: Net> {
     left: A1,
     right: B1,
+    // asked of the two nets once
+    seam: Option<Seam>,
+    ghost seamed: { seam ≡ seam_between (A1.Net.meaning left) (B1.Net.meaning right) },
 }
 
 impl<A1: Net, B1: Net> Joined<A1, B1> {
@@ -66,14 +69,22 @@ impl<A1: Net, B1: Net> Joined<A1, B1> {
     pub fn new(left: A1, right: B1) -> Self
         ensures { (result.left ≡ left) × (result.right ≡ right) }
     {
-        Joined { left, right }
+        let seam = seam_of(&left, &right);
+        Joined { left, right, seam }
+    }
+
+    // Where the right net begins and ends, or none where the two do not fit.
+    fn seam(&self) -> Option<Seam>
+        ensures { Seamed (A1.Net.meaning self.now.left) (B1.Net.meaning self.now.right) result }
+    {
+        self.seam
     }
 
     // Where transition t comes from, or none where there is no such transition.
     fn origin(&self, t: usize) -> Option<Origin>
         ensures { brought (A1.Net.meaning self.now.left) (B1.Net.meaning self.now.right) result ≡ transition (join_of (A1.Net.meaning self.now.left) (B1.Net.meaning self.now.right)) t }
     {
-        let seam = seam_of(&self.left, &self.right)?;
+        let seam = self.seam()?;
         if t < seam.left_transitions {
             Some(Origin::Left(t))
         } else if t < seam.transitions {
@@ -93,11 +104,11 @@ impl<A1: Net, B1: Net> Net for Joined<A1, B1> {
     ghost lawful = { λ x. joined_lawful _ _ (A1.Net.lawful x.left) (B1.Net.lawful x.right) };
 
     fn places(&self) -> usize {
-        seam_of(&self.left, &self.right).map_or(0, |seam| seam.places)
+        self.seam().map_or(0, |seam| seam.places)
     }
 
     fn transitions(&self) -> usize {
-        seam_of(&self.left, &self.right).map_or(0, |seam| seam.transitions)
+        self.seam().map_or(0, |seam| seam.transitions)
     }
 
     // Kept: this and the next three ask each another thing of the parts, and one function for them would take two closures, one for each kind of net.
