@@ -36,7 +36,7 @@ pub struct Snapshot {
 }
 
 // Where the tokens of transition t go, in rising order. The net is asked only until its total is found.
-// Kept: that the net has t is asked of callers, since no type can carry it: an invariant of a struct cannot speak of what a generic net means.
+// Kept: that the net has t is asked of callers: a struct of a net and a number could carry it, but clauses would then name both by longer paths.
 fn targets_of<N: Net>(net: &N, t: usize) -> [u8; WIDTH]
     requires { t < count_of (N.Net.meaning net.now) }
     ensures { Spells most_total (N.Net.meaning net.now).places (transition (N.Net.meaning net.now) t).puts result }

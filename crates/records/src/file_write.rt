@@ -16,7 +16,7 @@ fn place_record(number: u8) -> [u8; RECORD_SIZE]
 }
 
 // The targets of transition t in rising order, and no targets behind them.
-// Kept: that the net has t is asked of callers, since no type can carry it: an invariant of a struct cannot speak of what a generic net means.
+// Kept: that the net has t is asked of callers: a struct of a net and a number could carry it, but clauses would then name both by longer paths.
 fn targets_of<N: Net>(net: &N, t: usize) -> [u8; RECORD_TARGETS]
     requires { t < count_of (N.Net.meaning net.now) }
     ensures { result ≡ filled record_targets (spread (transition (N.Net.meaning net.now) t) (N.Net.meaning net.now).places) }
