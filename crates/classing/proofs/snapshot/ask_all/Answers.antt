@@ -1,13 +1,8 @@
 use Rattle.std.proofs.Common.{◌≡◌, length, arith, rules}
 use Rattle.net.specs.Meaning.{transition}
 use Rattle.classing.specs.Snapshots.{Keeps, no_move}
-use Rattle.classing.proofs.Writes.{write_more, front_holds}
+use Rattle.classing.proofs.Writes.{front_holds}
 use Rattle.classing.proofs.snapshot.ask_all.Goals as goal
-
-pub loop-t-preserved : goal.loop-t-preserved
-loop-t-preserved g c =
-    let m = g.N.Net.meaning c.args.net.now in
-    write_more (λ k x. Keeps m.places (transition m k) x) c.loop-t.this-items c.loop-t.t c.ask.result no_move (omega arith) c.loop-t.invariant c.ask.ensures
 
 pub returns : goal.returns
 returns g c =

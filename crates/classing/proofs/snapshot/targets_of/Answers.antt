@@ -16,10 +16,6 @@ pub bounds-targets-found : goal.bounds-targets-found
 bounds-targets-found g c =
     omega (arith, targets_fit (g.N.Net.meaning c.args.net.now) (g.N.Net.lawful c.args.net.now) c.args.t c.requires c.loop.targets c.loop.found c.loop-found.p _ c.loop.invariant)
 
-pub overflow_add-found : goal.overflow_add-found
-overflow_add-found g c =
-    omega (arith, targets_fit (g.N.Net.meaning c.args.net.now) (g.N.Net.lawful c.args.net.now) c.args.t c.requires c.loop.targets c.loop.found c.loop-found.p _ c.loop.invariant)
-
 pub loop-preserved : goal.loop-preserved
 loop-preserved g c =
     let m = g.N.Net.meaning c.args.net.now in

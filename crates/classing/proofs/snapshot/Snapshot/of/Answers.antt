@@ -4,23 +4,6 @@ use Rattle.classing.specs.Snapshots.{place_at}
 use Rattle.classing.proofs.Runs.{grouped_alike, place_in_front, places_known}
 use Rattle.classing.proofs.snapshot.Snapshot.of.Goals as goal
 
-pub invariant_of-placed : goal.invariant_of-placed
-invariant_of-placed g c =
-    let m = g.N.Net.meaning c.args.net.now in
-    let law = g.N.Net.lawful c.args.net.now in
-    let n = c.transitions-count.result in
-    let long = length-take-le n c.ask_all-moves.result (omega (arith, law.few_transitions)) in
-    record {
-      few = omega (arith, law.few_transitions);
-      known = λ t l. omega (
-        arith,
-        place_in_front n c.ask_all-moves.result t (omega arith),
-        places_known m law c.ask_all-moves.result c.ask_all-moves.ensures t (omega arith),
-        law.few_places,
-      );
-    }
-
--- the places go by the search, so that a snapshot with other places fails at that fact
 pub invariant_of-result : goal.invariant_of-result
 invariant_of-result g c =
     let m = g.N.Net.meaning c.args.net.now in
@@ -36,12 +19,4 @@ invariant_of-result g c =
         grouped = grouped_alike n (place_at (take n c.ask_all-moves.result)) (place_at c.ask_all-moves.result) (place_in_front n c.ask_all-moves.result) c.starts-starts.result c.order-order.result
             (rw long at c.order-order.ensures);
       };
-    }
-
-pub returns : goal.returns
-returns g c =
-    record {
-      all_places = search rules;
-      all_moves = c.transitions-count.ensures;
-      each = c.ask_all-moves.ensures;
     }
