@@ -1,11 +1,9 @@
 // What the timing program in bench/ links: the classes call on a listed net and on a ring, over and over.
 #![tactic(auto)]
 
-ghost use Rattle.std.specs.Prelude.{◌≤◌};
-ghost use Rattle.net.specs.Limits.{most_transitions};
-
+use arrayvec::ArrayVec;
 use class_tests::Listed;
-use classing::{Move, NO_TARGET, WIDTH, classes};
+use classing::{Move, classes};
 use net::{MOST_TRANSITIONS, Net, Ring};
 
 // Bytes of a listed transition: its place, its label, its four targets.
@@ -15,20 +13,21 @@ const ROW: usize = 6;
 // Kept: a number, since the C interface answers one.
 const REFUSED: usize = 1000;
 
-// Writes the transitions that stand in the bytes, one after the other, to the front of the rows, and answers how many there are.
-fn read(bytes: &[u8], rows: &mut [Move; MOST_TRANSITIONS]) -> usize
-    ensures { result ≤ most_transitions }
-{
-    for (row, bytes) in rows.iter_mut().zip(bytes.chunks_exact(ROW)) {
-        if let [place, label, a, b, c, d] = *bytes {
-            *row = Move {
+// The transitions that stand in the bytes, one after the other, as far as there is room for them.
+fn read(bytes: &[u8]) -> ArrayVec<Move, MOST_TRANSITIONS> {
+    let mut rows = ArrayVec::new();
+    for row in bytes.chunks_exact(ROW) {
+        if let [place, label, a, b, c, d] = *row
+            && !rows.is_full()
+        {
+            rows.push(Move {
                 place,
                 label,
                 targets: [a, b, c, d],
-            };
+            });
         }
     }
-    (bytes.len() / ROW).min(MOST_TRANSITIONS)
+    rows
 }
 
 // Calls classes `turns` times, and answers the rounds of the last call.
@@ -47,13 +46,8 @@ pub extern "C" fn bench_listed(
     list: &mut [u8],
     turns: usize,
 ) -> usize {
-    let mut rows = [Move {
-        place: 0,
-        label: 0,
-        targets: [NO_TARGET; WIDTH],
-    }; MOST_TRANSITIONS];
-    let count = read(bytes, &mut rows);
-    repeat(&Listed::new(places, &rows[..count]), list, turns)
+    let rows = read(bytes);
+    repeat(&Listed::new(places, rows.as_slice()), list, turns)
 }
 
 #[unsafe(no_mangle)]

@@ -4,36 +4,38 @@ ghost use Rattle.class_tests.specs.Listing.{listed as listed_net, fits};
 ghost use Rattle.class_tests.specs.ListingLaws.{listed_lawful};
 
 use crate::checks::{are_fit, times_in};
+use arrayvec::ArrayVec;
 use classing::{Move, NO_TARGET, WIDTH};
 use net::{MOST_PLACES, MOST_TRANSITIONS, Net};
 
-#[derive(Clone, Copy)]
-pub struct Listed<'a> {
+#[derive(Drop)]
+pub struct Listed {
     places: usize,
-    rows: &'a [Move],
-    ghost ok: { fits places rows.now ≡ true },
+    rows: ArrayVec<Move, MOST_TRANSITIONS>,
+    ghost ok: { fits places rows.items ≡ true },
 }
 
-impl<'a> Listed<'a> {
+impl Listed {
     // The net of the moves on the first n places, or an empty one where these do not keep the limits.
-    pub fn new(places: usize, rows: &'a [Move]) -> Listed<'a>
-        ensures { fits places rows.now ≡ true → listed_net result.places result.rows.now ≡ listed_net places rows.now }
+    pub fn new(places: usize, rows: &[Move]) -> Listed
+        ensures { fits places rows.now ≡ true → listed_net result.places result.rows.items ≡ listed_net places rows.now }
     {
-        if places <= MOST_PLACES && rows.len() <= MOST_TRANSITIONS && are_fit(rows, places) {
-            Listed { places, rows }
-        } else {
-            Listed {
-                places: 0,
-                rows: &[],
+        match ArrayVec::try_from(rows) {
+            Ok(rows) if places <= MOST_PLACES && are_fit(rows.as_slice(), places) => {
+                Listed { places, rows }
             }
+            _ => Listed {
+                places: 0,
+                rows: ArrayVec::new(),
+            },
         }
     }
 }
 
-impl Net for Listed<'_> {
-    ghost meaning = { λ x. listed_net x.places x.rows.now };
+impl Net for Listed {
+    ghost meaning = { λ x. listed_net x.places x.rows.items };
 
-    ghost lawful = { λ x. listed_lawful x.places x.rows.now x.ok };
+    ghost lawful = { λ x. listed_lawful x.places x.rows.items x.ok };
 
     fn places(&self) -> usize {
         self.places
@@ -52,6 +54,7 @@ impl Net for Listed<'_> {
     }
 
     fn total(&self, t: usize) -> u8 {
+        // Kept: `map_or` was tried here and for the tokens, and what it answers was not proved.
         match self.rows.get(t) {
             Some(row) => WIDTH as u8 - times_in(&row.targets, NO_TARGET),
             None => 0,

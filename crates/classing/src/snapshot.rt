@@ -16,7 +16,7 @@ pub const WIDTH: usize = MOST_TOTAL as usize;
 pub const NO_TARGET: u8 = 255;
 
 // A transition: its place, its label, and a target for each token that it puts down.
-#[derive(Clone, Copy)]
+#[derive(Clone, Copy, Default)]
 pub struct Move {
     pub place: u8,
     pub label: u8,
@@ -24,7 +24,7 @@ pub struct Move {
 }
 
 // The transitions of a net, and the numbers of those of each place.
-// Kept: a count beside the moves, since an `ArrayVec` fills its room with default moves, and no move is a default one.
+// Kept: by a rule of the project the room is an array of a fixed size; the count is how much of it is used.
 #[derive(Drop)]
 pub struct Snapshot {
     pub places: usize,
