@@ -13,7 +13,7 @@ pub const MOST_LINES: usize = 512;
 pub const MOST_PAIRS: usize = MOST_TOTAL as usize;
 
 // A line that another one names, and how many tokens are put where it holds.
-#[derive(Clone, Copy, PartialEq, Eq, Debug)]
+#[derive(Clone, Copy, PartialEq, Eq, Debug, Default)]
 pub struct Pair {
     pub line: u16,
     pub count: u8,
@@ -82,7 +82,7 @@ fn is_lawful_pair(at: usize, used: usize, most: u8, pair: &Pair, k: usize) -> bo
     if k < used {
         usize::from(pair.line) < at && pair.count <= most
     } else {
-        pair.line == 0 && pair.count == 0
+        *pair == Pair::default()
     }
 }
 

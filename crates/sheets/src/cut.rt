@@ -30,10 +30,12 @@ impl Cut<'_> {
         ensures { FourMore self.now lines.old lines.new }
     {
         let k = usize::from(self.first);
-        lines[k] = self.line;
-        lines[k + 1] = negation(self.first);
-        lines[k + 2] = conjunction(self.first, self.block);
-        lines[k + 3] = conjunction(self.first + 1, self.block);
+        lines[k..k + 4].copy_from_slice(&[
+            self.line,
+            negation(self.first),
+            conjunction(self.first, self.block),
+            conjunction(self.first + 1, self.block),
+        ]);
     }
 
     // The blocks once the cut is made: the places of its block that answer go to the third of its lines, the others to the fourth.

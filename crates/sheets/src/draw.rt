@@ -5,7 +5,6 @@ ghost use Rattle.sheets.specs.Drawing.{Draws, Names};
 
 use crate::blocks::Blocks;
 use crate::does::{tokens_where, total_of};
-use crate::lines::NO_PAIR;
 use classing::Move;
 use formulas::{Kind, Line, MOST_PAIRS, Pair};
 
@@ -18,7 +17,7 @@ pub(crate) fn draw(this: &Move, blocks: &Blocks) -> Line
         label: this.label,
         total: total_of(&this.targets),
         used: 0,
-        pairs: [NO_PAIR; MOST_PAIRS],
+        pairs: [Pair::default(); MOST_PAIRS],
     };
     for &target in &this.targets {
         let Some(&block) = blocks.lines.get(usize::from(target)) else {
@@ -27,6 +26,7 @@ pub(crate) fn draw(this: &Move, blocks: &Blocks) -> Line
         if names(&line, block) {
             continue;
         }
+        // Kept: by the format of a line its pairs are counted in a field of it.
         line.pairs[usize::from(line.used)] = Pair {
             line: block,
             count: tokens_where(blocks, block, &this.targets),

@@ -4,20 +4,18 @@ ghost use Rattle.sheets.specs.Lines.{everywhere as everywhere_line, negated, joi
 
 use formulas::{Kind, Line, Pair};
 
-pub(crate) const NO_PAIR: Pair = Pair { line: 0, count: 0 };
-
 // The line that holds everywhere.
 pub(crate) fn everywhere() -> Line
     ensures { result ≡ everywhere_line }
 {
-    plain(Kind::Everywhere, NO_PAIR, NO_PAIR)
+    plain(Kind::Everywhere, Pair::default(), Pair::default())
 }
 
 // The line that holds where line a does not.
 pub(crate) fn negation(a: u16) -> Line
     ensures { result ≡ negated a }
 {
-    plain(Kind::Negation, name(a), NO_PAIR)
+    plain(Kind::Negation, name(a), Pair::default())
 }
 
 // The line that holds where the lines a and b both do.
@@ -43,6 +41,6 @@ fn plain(kind: Kind, first: Pair, second: Pair) -> Line
         label: 0,
         total: 0,
         used: 0,
-        pairs: [first, second, NO_PAIR, NO_PAIR],
+        pairs: [first, second, Pair::default(), Pair::default()],
     }
 }
