@@ -52,6 +52,7 @@ pub(crate) fn describe_all(
 )
     ensures { Described snapshot.now table.now.classes profiles.new }
 {
+    // Kept: the order is read by index, since no contract knows what a `zip` with `iter_mut` writes.
     for (k, profile) in profiles[..snapshot.count].iter_mut().enumerate() {
         *profile = describe(&snapshot.moves[usize::from(snapshot.order[k])], table);
     }

@@ -29,7 +29,7 @@ impl ClassTable {
     }
 
     // Whether the two tables have the same classes for the first n places.
-    // Kept: n beside the table, which by a rule of the project has 128 entries, of which a net uses its first n.
+    // Kept: n beside the table, here and below, which by a rule of the project has 128 entries, of which a net uses its first n.
     pub(crate) fn agrees(&self, other: &ClassTable, n: usize) -> bool
         requires { n ≤ most_places }
         ensures { result ≡ agree n self.now.classes other.now.classes }

@@ -3,7 +3,7 @@ use net::Refusal::{
     MalformedRecord, OverLimit, PartialRecord, ShortList, TooManyTokens, UndeclaredPlace,
 };
 use net::{Fault, Net, Refusal};
-use records::{FileNet, Tokens, check, write};
+use records::{FileNet, MOST_BYTES, Tokens, check, write};
 use std::alloc::Global;
 use std::test::Fail;
 
@@ -224,4 +224,10 @@ fn written_again(rt: HostRuntime) -> Result<(), Fail> {
     assert_eq!(rt; write(&net, &mut short), Err(Fault::plain(ShortList)));
     assert_eq!(rt; (short[0], short[62]), (7, 7));
     Ok(())
+}
+
+// A file is judged by the bytes of 2,049 records.
+#[test]
+fn bytes_that_judge(rt: HostRuntime) {
+    assert_eq!(rt; MOST_BYTES, 16392);
 }
