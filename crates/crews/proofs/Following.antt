@@ -32,7 +32,7 @@ use Rattle.crews.proofs.Answering.{fits_from_by, by_from_fits, paired_sum, fits_
 use Rattle.crews.proofs.Judging.{judged_alike, judged_apart}
 use Rattle.crews.proofs.LayingOut.{laid_is}
 use Rattle.crews.proofs.Steps.{stays, steps_to, token, free_ready, sum_side, sum_ready, holds_after, same_tokens}
-use Rattle.crews.proofs.Tables.{Holds, Shows, FrontOf, front_of_holds, holds_sum, holds_fired, shows_side}
+use Rattle.crews.proofs.Tables.{Holds, Shows, holds_sum, holds_fired, shows_side}
 
 -- ## Both sides
 
@@ -119,17 +119,14 @@ module _ {N : Type 0} {G : Ghosts N} (m : Meaning) (b : Bench N G) (s t : ℕ) (
     -- ### A transition that fits
 
     module _ (cs : List ℕ) (classed : ClassedBy m cs) where
-      front_across : FrontOf m.places z.counts (across c s)
-      front_across = front_of_holds m.places z.counts (across c s) across_held
-
       pub some_answer : (u : ℕ) × FitsBy m cs z.counts t u
       some_answer =
           let (u, f) = some_fits m law c s t paired_held ready.known enabled in
-          (u, by_from_fits m law cs classed t u ready.known z.counts (across c s) front_across f)
+          (u, by_from_fits m law cs classed t u ready.known z.counts (across c s) across_held f)
 
       module _ (u : ℕ) (fits : FitsBy m cs z.counts t u) where
         fits_held : Fits m t u (across c s)
-        fits_held = fits_from_by m law cs classed t u ready.known z.counts (across c s) front_across fits
+        fits_held = fits_from_by m law cs classed t u ready.known z.counts (across c s) across_held fits
 
         pub sum_answer : length z.counts ≡ 128 → sum (fired m u z.counts) + 1 ≡ sum z.counts + total_of (transition m t)
         sum_answer wz =

@@ -1,6 +1,6 @@
 -- Tables of 128 entries that hold crews.
 use Rattle.std.proofs.Common.{◌≡◌, ℕ, ◌+◌, ◌-◌, ◌<◌, ◌≤◌, List, ◌++◌, length, get_or, take, drop, set, sum, sym, ap, ◌∙◌, ap₂, arith}
-use Rattle.std.proofs.lemmas.List.{take_at, take-append-drop, drop-set-lt, replicate-append-replicate, length-replicate, length-set, get_or_append_left, set-append_left, length-take-le, get_or-take}
+use Rattle.std.proofs.lemmas.List.{take_at, take-append-drop, drop-set-lt, replicate-append-replicate, length-replicate, length-set, get_or_append_left, set-append_left, length-take-le}
 use Rattle.std.proofs.Math.Seq.{drop-append_seam}
 use Rattle.net.specs.Meaning.{Meaning, transition, count_of}
 use Rattle.net.specs.Limits.{Lawful, most_places}
@@ -69,19 +69,6 @@ holds_fired m t table crew law known h =
       each = length_fired m t crew targets ∙ h.each;
       shown = ap (fired m t) h.shown ∙ fired_append m t crew (zeros (128 - m.places)) place targets;
     }
-
--- ## The front of a table
-
--- a crew of n places is the front of a table, whatever stands beyond
-pub record FrontOf (n : ℕ) (table crew : List ℕ) : Type 0 where
-  pub each : length crew ≡ n
-  pub at : (p : ℕ) → p < n → get_or table p 0 ≡ get_or crew p 0
-
-pub front_of_holds : (n : ℕ) (table crew : List ℕ) → Holds n table crew → FrontOf n table crew
-front_of_holds n table crew h = record { each = h.each; at = λ p l. holds_get_or n table crew p h l }
-
-pub front_of_take : (n : ℕ) (table : List ℕ) → n ≤ length table → FrontOf n table (take n table)
-front_of_take n table l = record { each = length-take-le n table l; at = λ p k. sym (get_or-take n table p 0 k) }
 
 -- ## The tables of a bench
 

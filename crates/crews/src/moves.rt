@@ -1,4 +1,4 @@
-// The calls that move the tokens of a bench.
+// A bench just made, the calls that move or count one crew, and what every call asks of its bench.
 ghost use Rattle.std.specs.Prelude.{◌≡◌};
 ghost use Rattle.team.specs.Classes.{ClassedBy};
 ghost use Rattle.crews.specs.Crews.{nobody};
