@@ -1,6 +1,6 @@
 -- Tables of 128 entries that hold crews.
 use Rattle.std.proofs.Common.{◌≡◌, ℕ, ◌+◌, ◌-◌, ◌<◌, ◌≤◌, List, ◌++◌, length, get_or, take, drop, set, sum, sym, ap, ◌∙◌, ap₂, arith}
-use Rattle.std.proofs.lemmas.List.{take_at, take-append-drop, drop-set-lt, replicate-append-replicate, length-replicate, length-set, get_or_append_left, set-append_left, length-take-le}
+use Rattle.std.proofs.lemmas.List.{take_at, take-append-drop, replicate-append-replicate, length-replicate, length-set, get_or_append_left, set-append_left, length-take-le}
 use Rattle.std.proofs.Math.Seq.{drop-append_seam}
 use Rattle.net.specs.Meaning.{Meaning, transition, count_of}
 use Rattle.net.specs.Limits.{Lawful, most_places}
@@ -38,10 +38,6 @@ holds_ends n table crew h =
 
 pub front_is : (n : ℕ) (table crew : List ℕ) → Holds n table crew → take n table ≡ crew
 front_is n table crew h = ap (take n) h.shown ∙ take_at crew _ n h.each
-
--- a change on one of the places changes nothing beyond
-pub ends_set : (n : ℕ) (table : List ℕ) (p k : ℕ) → p < n → EndsAt n table → EndsAt n (set table p k)
-ends_set n table p k l ends = drop-set-lt n table p k l ∙ ends
 
 pub holds_nobody : (n : ℕ) (table : List ℕ) → n ≤ 128 → table ≡ zeros 128 → Holds n table (zeros n)
 holds_nobody n table few e =
@@ -87,10 +83,6 @@ shows_held {N} {G} b wl wr =
 pub held_is : {N : Type 0} {G : Ghosts N} (m : Meaning) (b : Bench N G) (c : Crews) → Shows m b c → c ≡ crews_held m b
 held_is m b c h =
     ap₂ (λ (xs ys : List ℕ). record { left = xs; right = ys }) (sym (front_is m.places b.left.counts c.left h.left)) (sym (front_is m.places b.right.counts c.right h.right))
-
-pub ends_on : {N : Type 0} {G : Ghosts N} (b : Bench N G) (side : Side) → EndsAt (G.meaning b.net).places (table_on b side).counts
-ends_on b Left = b.left_ends
-ends_on b Right = b.right_ends
 
 -- the table on the side that the number s names
 pub shows_side : {N : Type 0} {G : Ghosts N} (m : Meaning) (b : Bench N G) (s : ℕ) (side : Side) (y : Crew) (c : Crews) → s ≡ side_number side → y ≡ table_on b side → Shows m b c

@@ -5,7 +5,7 @@ use Rattle.crews.specs.Crews.{on_side}
 use Rattle.crews.specs.Benches.{crews_held}
 use Rattle.crews.specs.Calls.{crowded}
 use Rattle.crews.specs.declared.call.Call.TheVariants.{Put}
-use Rattle.crews.proofs.Tables.{ends_set, ends_on, shows_held}
+use Rattle.crews.proofs.Tables.{shows_held}
 use Rattle.crews.proofs.Steps.{unknown_steps, put_refused, put_steps}
 use Rattle.crews.proofs.bench.Bench.put.Goals as goal
 
@@ -24,10 +24,6 @@ returns-then-count-room g c =
     let b = c.args.self.now in
     put_refused (g.N.Net.meaning b.net) b (shows_held b (search rules) (search rules)) c.args.side c.in_ok-side.side c.crew-crew.result c.in_ok-side.ensures.number c.crew-crew.ensures c.args.place c.args.count
     c.plain.result c.plain.ensures (omega (arith, c.places.ensures, c.in_ok-side.ensures.below)) (omega (arith, c.if-count-room.true, c.room.ensures))
-
-pub replace-requires : goal.replace-requires
-replace-requires g c =
-    rw (c.add.ensures, c.crew-crew.ensures) (ends_set _ _ _ _ (omega (arith, c.places.ensures, c.in_ok-side.ensures.below)) (ends_on c.args.self.now c.in_ok-side.side))
 
 pub returns : goal.returns
 returns g c =

@@ -4,7 +4,7 @@ use Rattle.crews.specs.Crews.{on_side}
 use Rattle.crews.specs.Benches.{crews_held}
 use Rattle.crews.specs.Calls.{lacking}
 use Rattle.crews.specs.declared.call.Call.TheVariants.{Take}
-use Rattle.crews.proofs.Tables.{ends_set, ends_on, shows_held}
+use Rattle.crews.proofs.Tables.{shows_held}
 use Rattle.crews.proofs.Steps.{unknown_steps, take_refused, take_steps}
 use Rattle.crews.proofs.bench.Bench.take.Goals as goal
 
@@ -23,10 +23,6 @@ returns-then-count-from g c =
     let b = c.args.self.now in
     take_refused (g.N.Net.meaning b.net) b (shows_held b (search rules) (search rules)) c.args.side c.in_ok-side.side c.crew-crew.result c.in_ok-side.ensures.number c.crew-crew.ensures c.args.place c.args.count
     c.plain.result c.plain.ensures (omega (arith, c.places.ensures, c.in_ok-side.ensures.below)) (omega (arith, c.if-count-from.true, c.from.ensures, c.at.ensures))
-
-pub replace-requires : goal.replace-requires
-replace-requires g c =
-    rw (c.remove.ensures, c.crew-crew.ensures) (ends_set _ _ _ _ (omega (arith, c.places.ensures, c.in_ok-side.ensures.below)) (ends_on c.args.self.now c.in_ok-side.side))
 
 pub returns : goal.returns
 returns g c =
