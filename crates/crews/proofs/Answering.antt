@@ -22,7 +22,7 @@ use Rattle.crews.specs.Crews.{Crews, on_side, across}
 use Rattle.crews.specs.Counting.{in_class}
 use Rattle.crews.specs.Following.{AnsweredBy, FitsBy, candidate}
 use Rattle.crews.proofs.Judging.{same_alike}
-use Rattle.crews.proofs.Tables.{FrontOf}
+use Rattle.crews.proofs.Tables.{Holds, holds_get_or}
 
 -- ## Fits, by classes and tables
 
@@ -32,7 +32,7 @@ module _ (m : Meaning) (law : Lawful m) (cs : List ℕ) (classed : ClassedBy m c
       tally_cong m.places (λ i. cond (same cs c i) (get_or xs i 0) 0) (λ i. cond (alike m c i) (get_or xs i 0) 0)
       (λ i k. ap (λ b. cond b (get_or xs i 0) 0) (same_alike m law cs classed c i l k))
 
-  module _ (t u : ℕ) (known : t < count_of m) (table crew : List ℕ) (h : FrontOf m.places table crew) where
+  module _ (t u : ℕ) (known : t < count_of m) (table crew : List ℕ) (h : Holds m.places table crew) where
     place_of : (v : ℕ) → v < count_of m → (transition m v).place < m.places
     place_of v l = (law.each v l).place_known
 
@@ -44,7 +44,7 @@ module _ (m : Meaning) (law : Lawful m) (cs : List ℕ) (classed : ClassedBy m c
           known = f.known;
           label = f.label;
           near = (alike_decides m law (transition m t).place (transition m u).place p q).0 (sym (same_alike m law cs classed (transition m t).place (transition m u).place p q) ∙ f.near);
-          token = omega (arith, f.token, h.at (transition m u).place q);
+          token = omega (arith, f.token, holds_get_or m.places table crew (transition m u).place h q);
           puts = λ c l. sym (held_same (transition m t).puts c l) ∙ f.puts c l ∙ held_same (transition m u).puts c l;
         }
 
@@ -56,7 +56,7 @@ module _ (m : Meaning) (law : Lawful m) (cs : List ℕ) (classed : ClassedBy m c
           known = f.known;
           label = f.label;
           near = same_alike m law cs classed (transition m t).place (transition m u).place p q ∙ (alike_decides m law (transition m t).place (transition m u).place p q).1 f.near;
-          token = omega (arith, f.token, h.at (transition m u).place q);
+          token = omega (arith, f.token, holds_get_or m.places table crew (transition m u).place h q);
           puts = λ c l. held_same (transition m t).puts c l ∙ f.puts c l ∙ sym (held_same (transition m u).puts c l);
         }
 

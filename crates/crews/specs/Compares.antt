@@ -1,12 +1,13 @@
 -- What compare answers, and what it leaves in the caller's list.
 use Rattle.std.specs.Prelude.{◌≡◌, ℕ, List, ◌++◌, length, drop, Ok, Err, Result}
 use Rattle.net.specs.Meaning.{Meaning}
+use Rattle.net.specs.declared.Net.{Ghosts}
 use Rattle.net.specs.Refusals.{First, Free}
 use Rattle.net.specs.declared.refusal.Fault.{Fault}
 use Rattle.crews.specs.Crews.{Crews}
 use Rattle.crews.specs.Calls.{cramped}
 use Rattle.crews.specs.Verdicts.{AlikeBy, ApartBy}
-use Rattle.crews.specs.Shows.{Shows}
+use Rattle.crews.specs.Benches.{crews_held}
 use Rattle.crews.specs.declared.bench.Bench.{Bench}
 use Rattle.crews.specs.declared.swap.Swap.{Swap}
 use Rattle.crews.specs.declared.swap.Difference.{Difference}
@@ -37,6 +38,6 @@ Says m c before after (Ok (Alike used)) = Written m c before after used
 Says m c before after (Ok (Apart d)) = Unwritten m c before after d
 Says m c before after (Err f) = TurnedDown m before after f
 
--- whatever crews the bench holds, this is said of them
-abbrev pub Compared : {N : Type 0} → Meaning → Bench N → List Swap → List Swap → Result Verdict Fault → Type 0
-Compared m b before after r = (c : Crews) → Shows m b c → Says m c before after r
+-- this is said of the crews of the bench
+abbrev pub Compared : {N : Type 0} {G : Ghosts N} → Meaning → Bench N G → List Swap → List Swap → Result Verdict Fault → Type 0
+Compared m b before after r = Says m (crews_held m b) before after r

@@ -2,7 +2,8 @@ pub mod Crews
 pub mod Calls
 pub mod Tally
 pub mod Sides
-pub mod Shows
+pub mod Tables
+pub mod Benches
 pub mod Swaps
 pub mod Pairs
 pub mod Counting

@@ -1,6 +1,6 @@
 // Following: a transition on one side, and one that fits it across.
 ghost use Rattle.std.specs.Prelude.{◌≡◌};
-ghost use Rattle.crews.specs.Shows.{Steps, answer_of};
+ghost use Rattle.crews.specs.Benches.{Steps, answer_of};
 ghost use Rattle.crews.specs.declared.call.Call.TheVariants.{Follow};
 ghost use Rattle.crews.specs.declared.call.Answer.TheVariants.{Followed};
 

@@ -8,6 +8,7 @@ mod counting;
 mod crew;
 mod crewed;
 mod follow;
+mod moves;
 mod pairing;
 mod runs;
 mod search;

@@ -1,7 +1,7 @@
 // Calls as values: one performed on a bench, or a list of them from an empty bench on.
 ghost use Rattle.std.specs.Prelude.{◌≡◌};
 ghost use Rattle.crews.specs.Calls.{TriedInOrder};
-ghost use Rattle.crews.specs.Shows.{Steps, Extends, ReplayedOr};
+ghost use Rattle.crews.specs.Benches.{Steps, Extends, ReplayedOr};
 ghost use Rattle.crews.specs.declared.call.Call.TheVariants.{Compare};
 
 use crate::{Answer, Bench, Call, MOST_SWAPS, Swap, SwapList, Verdict};

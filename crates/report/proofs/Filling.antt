@@ -3,6 +3,7 @@ use Rattle.std.proofs.Common.{◌≡◌, ℕ, zero, suc, ◌+◌, ◌≤◌, con
 use Rattle.std.specs.List.{range_with_len}
 use Rattle.net.specs.Meaning.{Meaning}
 use Rattle.net.specs.Limits.{most_tokens}
+use Rattle.net.specs.declared.Net.{Ghosts}
 use Rattle.net.specs.Lists.{zeros}
 use Rattle.net.specs.Markings.{more}
 use Rattle.net.specs.Refusals.{Row, First, Free}
@@ -13,7 +14,7 @@ use Rattle.records.specs.Crews.{crew_after, Put as PutBy}
 use Rattle.crews.specs.Crews.{Crews, on_side, with_side, nobody}
 use Rattle.crews.specs.Calls.{Meets}
 use Rattle.crews.specs.Tally.{Step, refused, put}
-use Rattle.crews.specs.Shows.{Shows, Steps}
+use Rattle.crews.specs.Benches.{crews_held, Steps}
 use Rattle.crews.specs.declared.bench.Bench.{Bench}
 use Rattle.crews.specs.declared.call.Call.TheVariants.{Put}
 use Rattle.crews.specs.declared.call.Answer.{Answer}
@@ -59,15 +60,13 @@ put_done : {m : Meaning} {c : Crews} {s p n : ℕ} {a : Result Answer Fault} {d 
 put_done {m} {c} {s} {p} {n} free (refused f first) = absurd (free_first (Meets m c (Put s p n)) f free first)
 put_done free (put s p n _) = refl
 
--- a record that puts tokens, on a bench that holds the crews of the records before
-pub crews_more : {N : Type 0} (bytes : List ℕ) (k : ℕ) (t : Tokens) (b b' : Bench N) (a : Result Answer Fault) → PutBy bytes k (Some t)
-    → Steps (net_of bytes) b (Put t.side t.place t.count) a b' → Shows (net_of bytes) b (crews_after bytes k) → Shows (net_of bytes) b' (crews_after bytes (k + 1))
-crews_more bytes k t b b' a p steps shows =
+-- a record that puts tokens, on a bench with the crews of the records before
+pub crews_more : {N : Type 0} {G : Ghosts N} (bytes : List ℕ) (k : ℕ) (t : Tokens) (b b' : Bench N G) (a : Result Answer Fault) → PutBy bytes k (Some t)
+    → Steps (net_of bytes) b (Put t.side t.place t.count) a b' → crews_held (net_of bytes) b ≡ crews_after bytes k → crews_held (net_of bytes) b' ≡ crews_after bytes (k + 1)
+crews_more bytes k t b b' a p steps before =
     let m = net_of bytes in
     let c = crews_after bytes k in
-    let (d, shown, step) = steps.leads c shows in
     let light = added_light bytes k t.side t.place t.count p.lawful.side_known p.next p.light in
     let free : Free (Meets m c (Put t.side t.place t.count)) =
     ((λ h. omega (arith, h, p.lawful.side_known)), ((λ h. omega (arith, h, p.lawful.place_known)), ((λ h. omega (arith, h, light)), tt))) in
-    let there = put_done free step ∙ sym (added_crews bytes k t.side t.place t.count p.lawful.side_known p.next) in
-    subst (Shows m b') there shown
+    put_done free (subst (λ x. Step m x (Put t.side t.place t.count) a (crews_held m b')) before steps.leads) ∙ sym (added_crews bytes k t.side t.place t.count p.lawful.side_known p.next)

@@ -8,14 +8,14 @@ pub returns-in_err-used : goal.returns-in_err-used
 returns-in_err-used g c =
     let b = c.args.bench.now in
     let p = err_from_is_err_and c.from_residual.result c.from_residual.ensures.1 in
-    rw (p.1, p.2) (compared_refused (g.N.Net.meaning b.net) b c.args.room _ _ _ c.in_err-used.ensures (search (rules, length-take)) (g.N.Net.lawful b.net).few_places)
+    rw (p.1, p.2) (compared_refused (g.N.Net.meaning b.net) b c.args.room _ _ (search (rules, length-take)) (g.N.Net.lawful b.net).few_places _ c.in_err-used.ensures)
 
 pub returns-in-Alike : goal.returns-in-Alike
 returns-in-Alike g c =
     let b = c.args.bench.now in
-    compared_alike (g.N.Net.meaning b.net) b c.args.room _ c.compare.new.list _ _ _ (rw c.in-Alike.is at c.in_ok-used.ensures) refl (search (rules, length-take)) (g.N.Net.lawful b.net).few_places
+    compared_alike (g.N.Net.meaning b.net) b c.args.room _ c.compare.new.list (search (rules, length-take)) (g.N.Net.lawful b.net).few_places _ _ _ (rw c.in-Alike.is at c.in_ok-used.ensures) refl
 
 pub returns-in-Apart : goal.returns-in-Apart
 returns-in-Apart g c =
     let b = c.args.bench.now in
-    compared_apart (g.N.Net.meaning b.net) b c.args.room _ c.compare.new.list _ (rw c.in-Apart.is at c.in_ok-used.ensures) (search (rules, length-take)) (g.N.Net.lawful b.net).few_places
+    compared_apart (g.N.Net.meaning b.net) b c.args.room _ c.compare.new.list (search (rules, length-take)) (g.N.Net.lawful b.net).few_places _ (rw c.in-Apart.is at c.in_ok-used.ensures)

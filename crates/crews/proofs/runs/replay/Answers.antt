@@ -1,6 +1,6 @@
-use Rattle.std.proofs.Common.{get_or, sym, refl, ◌∙◌, subst}
+use Rattle.std.proofs.Common.{◌≡◌, get_or, sym, refl, ◌∙◌, subst}
 use Rattle.crews.specs.Crews.{nobody}
-use Rattle.crews.specs.Shows.{Shows, Extends}
+use Rattle.crews.specs.Benches.{crews_held, Extends}
 use Rattle.crews.specs.declared.call.Call.TheVariants.{Put}
 use Rattle.crews.proofs.Replaying.{going_none, going_more}
 use Rattle.crews.proofs.runs.replay.Goals as goal
@@ -8,8 +8,8 @@ use Rattle.crews.proofs.runs.replay.Goals as goal
 pub loop-i-init : goal.loop-i-init
 loop-i-init g c =
     let b = c.new-bench.result in
-    let shows = subst (λ x. Shows (g.N.Net.meaning x) b (nobody (g.N.Net.meaning x).places)) (sym c.new-bench.ensures.same) c.new-bench.ensures.shows in
-    (refl, going_none (g.N.Net.meaning b.net) c.args.calls.now c.args.answers.now b shows)
+    let empty = subst (λ x. crews_held (g.N.Net.meaning x) b ≡ nobody (g.N.Net.meaning x).places) (sym c.new-bench.ensures.same) c.new-bench.ensures.empty in
+    (refl, going_none (g.N.Net.meaning b.net) c.args.calls.now c.args.answers.now b empty)
 
 pub loop-i-preserved : goal.loop-i-preserved
 loop-i-preserved g c =

@@ -1,4 +1,4 @@
-use Rattle.std.proofs.Common.{◌<◌, Some, None, ap, ◌∙◌, arith}
+use Rattle.std.proofs.Common.{◌<◌, Some, None, sym, ap, ◌∙◌, arith}
 use Rattle.records.specs.File.{admitted_records}
 use Rattle.records.specs.Crews.{Put as PutBy}
 use Rattle.report.proofs.Filling.{crews_same, crews_more}
@@ -15,8 +15,8 @@ loop-k-preserved c =
       | in-Some w ↦
           let told : PutBy bytes k (Some w.in-Some.tokens) = rw c.new-net.ensures at (w.in-Some.ensures.crews inside) in
           let steps = simp (ap (λ n. n.bytes.now) inv.same, c.new-net.ensures) at w.put.ensures in
-          rw w.bench-is (record { same = w.put.ensures.same ∙ inv.same; shows = crews_more bytes k w.in-Some.tokens _ _ _ told steps inv.shows })
+          rw w.bench-is (record { same = w.put.ensures.same ∙ inv.same; crews = crews_more bytes k w.in-Some.tokens c.loop-k.bench w.put.new.self _ told steps inv.crews })
       | in_default w ↦
           let told : PutBy bytes k None = rw c.new-net.ensures at (w.in_default.ensures.crews inside) in
-          rw w.bench-is (record { same = inv.same; shows = rw (crews_same bytes k told) inv.shows })
+          rw w.bench-is (record { same = inv.same; crews = inv.crews ∙ sym (crews_same bytes k told) })
     ]

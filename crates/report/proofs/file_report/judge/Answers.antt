@@ -1,7 +1,6 @@
 use Rattle.std.proofs.Common.{◌≡◌, true, length, is_ok, sym, ap, arith, rules}
 use Rattle.std.proofs.lemmas.Result.{err_from_is_err_and}
 use Rattle.records.specs.File.{sound}
-use Rattle.report.specs.Reports.{crews_of}
 use Rattle.report.proofs.Judging.{judges_refused, judges_compared}
 use Rattle.report.proofs.file_report.judge.Goals as goal
 
@@ -18,4 +17,4 @@ returns c =
     let ok : sound bytes ≡ true = sym (ap is_ok told.result) in
     let whole : length c.args.entries.now ≡ 256 = search rules in
     let compared = simp c.bench_of.ensures.same at c.compare.ensures in
-    judges_compared bytes ok (omega (arith, told.crews)) (omega (arith, told.crews)) _ _ _ (omega (arith, whole)) (compared (crews_of bytes) c.bench_of.ensures.shows)
+    judges_compared bytes ok (omega (arith, told.crews)) (omega (arith, told.crews)) _ _ _ (omega (arith, whole)) (rw c.bench_of.ensures.crews at compared)

@@ -1,7 +1,13 @@
-use Rattle.crews.proofs.Tables.{holds_nobody}
+use Rattle.std.proofs.Common.{ℕ, List, ap₂}
+use Rattle.crews.proofs.Tables.{holds_ends, holds_nobody, front_is}
 use Rattle.crews.proofs.bench.Bench.new.Goals as goal
 
-pub returns-clause-shows : goal.returns-clause-shows
-returns-clause-shows g c =
+pub invariant_of-result : goal.invariant_of-result
+invariant_of-result g c =
     let few = (g.N.Net.lawful c.args.net).few_places in
-    record { left = holds_nobody _ _ few c.new.ensures; right = holds_nobody _ _ few c.new-2.ensures }
+    record { left_ends = holds_ends _ _ _ (holds_nobody _ _ few c.new.ensures); right_ends = holds_ends _ _ _ (holds_nobody _ _ few c.new-2.ensures) }
+
+pub returns-clause-empty : goal.returns-clause-empty
+returns-clause-empty g c =
+    let few = (g.N.Net.lawful c.args.net).few_places in
+    ap₂ (λ (xs ys : List ℕ). record { left = xs; right = ys }) (front_is _ _ _ (holds_nobody _ _ few c.new.ensures)) (front_is _ _ _ (holds_nobody _ _ few c.new-2.ensures))

@@ -1,8 +1,10 @@
-use Rattle.std.proofs.Common.{refl, arith}
+use Rattle.std.proofs.Common.{refl, arith, rules}
 use Rattle.std.proofs.lemmas.Result.{err_from_is_err_and}
 use Rattle.crews.specs.Crews.{on_side}
+use Rattle.crews.specs.Benches.{crews_held}
 use Rattle.crews.specs.Calls.{lacking}
 use Rattle.crews.specs.declared.call.Call.TheVariants.{Take}
+use Rattle.crews.proofs.Tables.{shows_held}
 use Rattle.crews.proofs.Steps.{unknown_steps, take_refused, take_steps}
 use Rattle.crews.proofs.bench.Bench.take.Goals as goal
 
@@ -14,17 +16,17 @@ returns-in_err-side g c =
     let i = c.args.place in
     let k = c.args.count in
     let p = err_from_is_err_and c.from_residual.result c.from_residual.ensures.1 in
-    rw (p.1, p.2) (unknown_steps m b (Take s i k) _ m.places s i (λ x. lacking (on_side x s) i k) _ c.places.ensures (λ x. refl) c.in_err-side.ensures)
+    rw (p.1, p.2) (unknown_steps m b (Take s i k) _ m.places s i (lacking (on_side (crews_held m b) s) i k) _ c.places.ensures refl c.in_err-side.ensures)
 
 pub returns-then-count-from : goal.returns-then-count-from
 returns-then-count-from g c =
     let b = c.args.self.now in
-    take_refused (g.N.Net.meaning b.net) b c.args.side c.in_ok-side.side c.crew-crew.result c.in_ok-side.ensures.number c.crew-crew.ensures c.args.place c.args.count
+    take_refused (g.N.Net.meaning b.net) b (shows_held b (search rules) (search rules)) c.args.side c.in_ok-side.side c.crew-crew.result c.in_ok-side.ensures.number c.crew-crew.ensures c.args.place c.args.count
     c.plain.result c.plain.ensures (omega (arith, c.places.ensures, c.in_ok-side.ensures.below)) (omega (arith, c.if-count-from.true, c.from.ensures, c.at.ensures))
 
 pub returns : goal.returns
 returns g c =
     let b = c.args.self.now in
-    take_steps (g.N.Net.meaning b.net) b c.args.side c.in_ok-side.side c.crew-crew.result c.in_ok-side.ensures.number c.crew-crew.ensures c.replace.new.self c.remove.new.self
+    take_steps (g.N.Net.meaning b.net) b (shows_held b (search rules) (search rules)) c.args.side c.in_ok-side.side c.crew-crew.result c.in_ok-side.ensures.number c.crew-crew.ensures c.replace.new.self c.remove.new.self
     c.args.place c.args.count c.replace.ensures c.remove.ensures (omega (arith, c.places.ensures, c.in_ok-side.ensures.below))
     (omega (arith, c.if-count-from.false, c.from.ensures, c.at.ensures))
