@@ -1,10 +1,11 @@
 -- The tokens that a transition puts down as a list of w targets, one for each token.
 use Rattle.std.specs.Prelude.{◌≡◌, ℕ, ◌<◌, cond, ◌⊎◌, List, ◌==◌, slice_index}
+use Rattle.net.specs.Targets.{no_target as none}
 use Rattle.team.specs.Below.{tally}
 
 -- what stands in the list where there is no token, and for the class of no target
 abbrev pub no_target : ℕ
-no_target = 255
+no_target = none
 
 -- how many of the first w entries are v
 abbrev pub times : ℕ → List ℕ → ℕ → ℕ

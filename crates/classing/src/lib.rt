@@ -11,8 +11,9 @@ mod refine;
 mod snapshot;
 mod table;
 
+pub use net::{NO_TARGET, WIDTH};
 pub use refine::Partition;
-pub use snapshot::{Move, NO_TARGET, Snapshot, WIDTH};
+pub use snapshot::{Move, Snapshot};
 pub use table::ClassTable;
 
 // Writes the class of each place, its lowest bisimilar place, into the list, and answers the rounds.

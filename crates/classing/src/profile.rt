@@ -2,9 +2,9 @@
 ghost use Rattle.std.specs.Prelude.{◌≡◌};
 ghost use Rattle.classing.specs.Profiles.{class_at, ProfileOf, Described};
 
-use crate::snapshot::{Move, NO_TARGET, Snapshot, WIDTH};
+use crate::snapshot::{Move, Snapshot};
 use crate::table::ClassTable;
-use net::MOST_TRANSITIONS;
+use net::{MOST_TRANSITIONS, NO_TARGET, WIDTH};
 
 // The label of a transition and the classes of its targets in rising order: two transitions match exactly when these are equal.
 #[derive(Clone, Copy, PartialEq, Eq)]

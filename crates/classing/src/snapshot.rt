@@ -1,19 +1,10 @@
 // A snapshot of a net: all that the refinement asks, taken once.
 ghost use Rattle.std.specs.Prelude.{ℕ, ◌<◌, slice_index_or};
 ghost use Rattle.net.specs.Meaning.{count_of, transition};
-ghost use Rattle.net.specs.Limits.{most_total};
-ghost use Rattle.classing.specs.Targets.{Spells};
 ghost use Rattle.classing.specs.Snapshots.{Keeps, NumbersOf, Sound, no_move};
 
 use crate::groups::{Placed, STARTS};
-use net::{MOST_PLACES, MOST_TOTAL, MOST_TRANSITIONS, Net};
-
-// A transition puts down so many tokens at most.
-pub const WIDTH: usize = MOST_TOTAL as usize;
-
-// What stands in place of a target where there is no token.
-// Kept: `Option<u8>` would be no plainer: what is sorted and compared are bytes, and a record file has the same byte there.
-pub const NO_TARGET: u8 = 255;
+use net::{MOST_PLACES, MOST_TRANSITIONS, NO_TARGET, Net, WIDTH, targets_of};
 
 // A transition: its place, its label, and a target for each token that it puts down.
 #[derive(Clone, Copy, Default)]
@@ -35,37 +26,15 @@ pub struct Snapshot {
     ghost sound: { Sound places count moves starts order },
 }
 
-// Where the tokens of transition t go, in rising order. The net is asked only until its total is found.
-// Kept: that the net has t is asked of callers: a struct of a net and a number could carry it, but clauses would then name both by longer paths.
-fn targets_of<N: Net>(net: &N, t: usize) -> [u8; WIDTH]
-    requires { t < count_of (N.Net.meaning net.now) }
-    ensures { Spells most_total (N.Net.meaning net.now).places (transition (N.Net.meaning net.now) t).puts result }
-{
-    let mut targets = [NO_TARGET; WIDTH];
-    let total = usize::from(net.total(t));
-    let mut found: usize = 0;
-    // Kept: a `for` over the places in place of this `while` was proved, with `fill` and without, and then the ring misses the bar that this loop meets.
-    let mut p: usize = 0;
-    while found < total {
-        for _ in 0..net.tokens(t, p) {
-            targets[found] = p as u8;
-            found += 1;
-        }
-        p += 1;
-    }
-    targets
-}
-
 // Transition t, asked of the net.
 fn ask<N: Net>(net: &N, t: usize) -> Move
     requires { t < count_of (N.Net.meaning net.now) }
     ensures { Keeps (N.Net.meaning net.now).places (transition (N.Net.meaning net.now) t) result }
 {
-    let targets = targets_of(net, t);
     Move {
         place: net.place(t) as u8,
         label: net.label(t),
-        targets,
+        targets: targets_of(net, t),
     }
 }
 

@@ -1,2 +1,3 @@
 pub mod Markings
 pub mod Refusals
+pub mod Spreads

@@ -2,6 +2,7 @@ pub mod Meaning
 pub mod Limits
 pub mod Lists
 pub mod Markings
+pub mod Targets
 pub mod Refusals
 pub mod Texts
 pub mod Rings

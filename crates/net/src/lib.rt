@@ -9,11 +9,13 @@ mod joined;
 mod limits;
 mod refusal;
 mod ring;
+mod targets;
 
 pub use joined::{Joined, fit};
 pub use limits::{MOST_LABEL, MOST_PLACES, MOST_TOKENS, MOST_TOTAL, MOST_TRANSITIONS};
 pub use refusal::{Fault, Refusal};
 pub use ring::Ring;
+pub use targets::{NO_TARGET, WIDTH, targets_of};
 
 // A kind of net. Whoever brings one says what its values mean, shows that they keep the limits, and answers six questions by that meaning.
 // A number out of range is answered by 0.

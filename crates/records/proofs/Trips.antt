@@ -12,8 +12,10 @@ use Rattle.records.specs.Entry.{Entry, declares, moves, is_transition, below, re
 use Rattle.records.specs.Check.{counted, well_formed, known, roomy, light, unless, admit, then, checked_to, checked}
 use Rattle.records.specs.CheckLaws.{counts_are}
 use Rattle.records.specs.File.{sound, transition_of, transition_records, declared_places, declared_net, net_of}
-use Rattle.records.specs.Write.{spread, place_record, transition_record, record_of, written, records_of, file_of}
-use Rattle.records.proofs.Spreads.{length_spread_all, length_filled, below_spread, reading_written, transition_written}
+use Rattle.records.specs.Write.{place_record, transition_record, record_of, written, records_of, file_of}
+use Rattle.net.specs.Targets.{spread}
+use Rattle.net.proofs.Spreads.{length_spread_all, length_filled}
+use Rattle.records.proofs.Spreads.{below_spread, reading_written, transition_written}
 
 -- a record that passes each test is admitted
 admit_from : (e : Entry) (k : ℕ) (c : Counts) → well_formed e ≡ true → known e c ≡ true → roomy e k c ≡ true → light e c ≡ true → admit e k c ≡ Ok (counted e c)

@@ -1,17 +1,16 @@
--- The steps of the two loops that write.
-use Rattle.std.proofs.Common.{◌≡◌, ℕ, ◌+◌, ◌-◌, ◌*◌, ◌<◌, ◌≤◌, true, cond, leb, List, ◌++◌, length, take, drop, replicate, Ok, Err, sym, refl, ap, ◌∙◌, ap₂, add-one, arith, length-append, length-drop, length-take}
+-- The steps of the loop that writes.
+use Rattle.std.proofs.Common.{◌≡◌, ℕ, ◌+◌, ◌*◌, ◌<◌, ◌≤◌, true, cond, leb, List, ◌++◌, length, take, drop, Ok, Err, sym, refl, ap, ◌∙◌, ap₂, add-one, arith, length-append}
 use borrow.Rule.Slice.PartMut.{put_mid}
-use Rattle.std.proofs.lemmas.List.{length-replicate, take_at, drop_at, take_all, drop-drop, drop-replicate}
+use Rattle.std.proofs.lemmas.List.{take_at, drop_at, take_all, drop-drop}
 use Rattle.std.proofs.lemmas.Slice.{put_mid-paste}
 use Rattle.std.proofs.lemmas.Bool.{le-leb}
 use Rattle.net.specs.declared.refusal.Refusal.TheVariants.{ShortList}
 use Rattle.net.specs.Refusals.{plain}
-use Rattle.net.specs.Meaning.{Meaning, Transition, tokens_on}
+use Rattle.net.specs.Meaning.{Meaning}
 use Rattle.net.specs.Limits.{Lawful}
-use Rattle.records.specs.Layout.{record_size, no_target}
+use Rattle.records.specs.Layout.{record_size}
 use Rattle.records.specs.File.{net_of}
-use Rattle.records.specs.Write.{spread, filled, record_of, written, records_of, bytes_of, file_of, over_front, write_answer, write_after}
-use Rattle.records.proofs.Spreads.{length_filled}
+use Rattle.records.specs.Write.{record_of, written, records_of, bytes_of, file_of, over_front, write_answer, write_after}
 use Rattle.records.proofs.Trips.{length_record_of, length_written, net_written}
 
 -- a part written straight after what is written over the front of a list
@@ -23,31 +22,6 @@ put_over xs ys old a k at size =
     put_mid-paste a k (over_front xs old) ys ys k refl refl (sym size)
     ∙ ap₂ (λ front end. (front ++ take k ys) ++ end) (take_at xs rest a at) back
     ∙ ap (λ mid. (xs ++ mid) ++ drop (length (xs ++ ys)) old) (take_all k ys (omega arith))
-
-filled_over : (width : ℕ) (ts : List ℕ) → filled width ts ≡ over_front ts (replicate width no_target)
-filled_over width ts = ap (λ r. ts ++ r) (sym (drop-replicate {X = ℕ} (length ts) width no_target))
-
--- the targets of one place more, filled into the part that starts behind those of the places before
-pub filled_more : (width : ℕ) (t : Transition) (p used count : ℕ) (found last : List ℕ) →
-    found ≡ filled width (spread t p) → used ≡ length (spread t p) → count ≡ tokens_on t p → used + count ≤ width →
-    last ≡ replicate (length (take ((used + count) - used) (drop used found))) p →
-    (put_mid used ((used + count) - used) found last ≡ filled width (spread t (p + 1))) × (used + count ≡ length (spread t (p + 1)))
-filled_more width t p used count found last found_is used_is count_is room last_is =
-    let ts = spread t p in
-    let k = (used + count) - used in
-    let none = replicate {A = ℕ} width no_target in
-    let wide : length found ≡ width = ap length found_is ∙ length_filled width ts (omega arith) in
-    let size : length (take k (drop used found)) ≡ count = omega (arith, length-take k (drop used found), length-drop used found) in
-    let last_all : last ≡ replicate count p = last_is ∙ ap (λ n. replicate n p) size in
-    let more : spread t (p + 1) ≡ ts ++ replicate count p = ap (spread t) (add-one p) ∙ ap (λ c. ts ++ replicate c p) (sym count_is) in
-    let long : length last ≡ k = ap length last_all ∙ length-replicate count p ∙ omega arith in (
-      ap (λ f. put_mid used k f last) (found_is ∙ filled_over width ts)
-          ∙ put_over ts last none used k (sym used_is) long
-          ∙ ap (λ zs. over_front (ts ++ zs) none) last_all
-          ∙ sym (filled_over width (ts ++ replicate count p))
-          ∙ ap (filled width) (sym more),
-      omega (arith, ap length more, length-append ts (replicate count p), length-replicate count p),
-    )
 
 -- one record more
 pub written_more : (m : Meaning) → Lawful m → (k j : ℕ) (out old last bytes : List ℕ) → k < records_of m → out ≡ over_front (written m k) old → bytes ≡ record_of m k → last ≡ bytes → j ≡ record_size →

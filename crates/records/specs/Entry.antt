@@ -2,7 +2,8 @@
 use Rattle.std.specs.Prelude.{ℕ, ◌+◌, ◌*◌, Bool, true, false, cond, ◌&&◌, List, [], ◌∷◌, take, drop, ◌==◌, nat_le, nat_lt}
 use Rattle.std.specs.List.{list_all}
 use Rattle.net.specs.Limits.{most_label}
-use Rattle.records.specs.Layout.{at, place_kind, transition_kind, tokens_kind, head_size, record_targets, no_target}
+use Rattle.net.specs.Targets.{no_target}
+use Rattle.records.specs.Layout.{at, place_kind, transition_kind, tokens_kind, head_size, record_targets}
 
 pub data Entry : Type 0 where
   -- a place is declared: its number

@@ -22,10 +22,6 @@ head_size = 4
 abbrev pub record_targets : ℕ
 record_targets = 4
 
--- the byte where a transition record has no target
-abbrev pub no_target : ℕ
-no_target = 255
-
 abbrev pub most_records : ℕ
 most_records = 2048
 

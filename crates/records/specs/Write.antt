@@ -3,17 +3,9 @@ use Rattle.std.specs.Prelude.{ℕ, zero, suc, ◌+◌, ◌-◌, ◌*◌, cond, L
 use Rattle.net.specs.declared.refusal.Refusal.TheVariants.{ShortList}
 use Rattle.net.specs.declared.refusal.Fault.{Fault}
 use Rattle.net.specs.Refusals.{plain}
-use Rattle.net.specs.Meaning.{Meaning, Transition, transition, count_of, tokens_on, total_of}
-use Rattle.records.specs.Layout.{record_size, place_kind, transition_kind, record_targets, no_target}
-
--- the targets of a transition among the first n places, in rising order
-abbrev pub spread : Transition → ℕ → List ℕ
-spread t zero = []
-spread t (suc p) = spread t p ++ replicate (tokens_on t p) p
-
--- targets, and no targets up to the width
-abbrev pub filled : ℕ → List ℕ → List ℕ
-filled width ts = ts ++ replicate (width - length ts) no_target
+use Rattle.net.specs.Meaning.{Meaning, Transition, transition, count_of, total_of}
+use Rattle.net.specs.Targets.{spread, filled}
+use Rattle.records.specs.Layout.{record_size, place_kind, transition_kind, record_targets}
 
 abbrev pub place_record : ℕ → List ℕ
 place_record p = place_kind ∷ p ∷ replicate {A = ℕ} (record_size - 2) 0

@@ -1,8 +1,8 @@
 // The file check.
-ghost use Rattle.std.specs.Prelude.{◌≡◌, ℕ, ◌≤◌, length, IfOk};
+ghost use Rattle.std.specs.Prelude.{◌≡◌, ℕ, ◌≤◌, length, nat_le, IfOk};
 ghost use Rattle.net.specs.Limits.{most_tokens};
-ghost use Rattle.net.specs.Refusals.{Rising};
-ghost use Rattle.records.specs.Layout.{record_size};
+ghost use Rattle.net.specs.Refusals.{Rising, at_spot as fault_at};
+ghost use Rattle.records.specs.Layout.{record_size, most_records};
 ghost use Rattle.records.specs.Entry.{declares, moves, holds, reading};
 ghost use Rattle.records.specs.Check.{admit as admitted, checked};
 ghost use Rattle.records.specs.Crews.{Measures};
@@ -15,81 +15,105 @@ use crate::targets::declared;
 use crate::tokens::Tokens;
 use net::{Fault, MOST_PLACES, MOST_TOKENS, MOST_TRANSITIONS, Refusal};
 
-// A place record: places are declared in order from 0.
-fn admit_place(number: usize, spot: usize, seen: Counts) -> Result<Counts, Fault>
-    ensures { result ≡ admitted (declares number) spot seen }
-{
-    if number != seen.places {
-        return Err(Fault::at(Refusal::UndeclaredPlace, spot));
-    }
-    if seen.places >= MOST_PLACES || spot >= MOST_RECORDS {
-        return Err(Fault::at(Refusal::OverLimit, spot));
-    }
-    Ok(Counts {
-        places: seen.places + 1,
-        ..seen
-    })
+// A record that is tried: its number in the file, and what the records before it hold.
+#[derive(Clone, Copy)]
+struct Trial {
+    spot: usize,
+    seen: Counts,
+    ghost left: { seen.left ≤ most_tokens },
+    ghost right: { seen.right ≤ most_tokens },
 }
 
-// A transition record: its places are declared before it.
-fn admit_transition(transition: Transition, spot: usize, seen: Counts) -> Result<Counts, Fault>
-    ensures { result ≡ admitted (moves transition.entry.place transition.entry.label transition.entry.targets.now) spot seen }
-{
-    if transition.place >= seen.places || !declared(transition.targets, seen.places) {
-        return Err(Fault::at(Refusal::UndeclaredPlace, spot));
+impl Trial {
+    // The fault of this record.
+    fn fault(self, refusal: Refusal) -> Fault
+        ensures { result ≡ fault_at refusal self.spot }
+    {
+        Fault::at(refusal, self.spot)
     }
-    if seen.transitions >= MOST_TRANSITIONS || spot >= MOST_RECORDS {
-        return Err(Fault::at(Refusal::OverLimit, spot));
-    }
-    Ok(Counts {
-        transitions: seen.transitions + 1,
-        ..seen
-    })
-}
 
-// A token record: its place is declared before it, and its crew has room for the tokens.
-fn admit_tokens(tokens: Tokens, spot: usize, seen: Counts) -> Result<Counts, Fault>
-    requires left { seen.left ≤ most_tokens }
-    requires right { seen.right ≤ most_tokens }
-    ensures { result ≡ admitted (holds tokens.side tokens.place tokens.count) spot seen }
-{
-    if tokens.place >= seen.places {
-        return Err(Fault::at(Refusal::UndeclaredPlace, spot));
+    // Whether this is one record too many.
+    fn is_over(self) -> bool
+        ensures { result ≡ nat_le most_records self.spot }
+    {
+        self.spot >= MOST_RECORDS
     }
-    if spot >= MOST_RECORDS {
-        return Err(Fault::at(Refusal::OverLimit, spot));
-    }
-    // Kept: the side is the number that the record has, as in `Tokens`.
-    let crew = if tokens.side == 0 {
-        seen.left
-    } else {
-        seen.right
-    };
-    if tokens.count > usize::from(MOST_TOKENS) - crew {
-        return Err(Fault::at(Refusal::TooManyTokens, spot));
-    }
-    let crew = crew + tokens.count;
-    if tokens.side == 0 {
-        Ok(Counts { left: crew, ..seen })
-    } else {
+
+    // A place record: places are declared in order from 0.
+    fn place(self, number: usize) -> Result<Counts, Fault>
+        ensures { result ≡ admitted (declares number) self.spot self.seen }
+    {
+        if number != self.seen.places {
+            return Err(self.fault(Refusal::UndeclaredPlace));
+        }
+        if self.seen.places >= MOST_PLACES || self.is_over() {
+            return Err(self.fault(Refusal::OverLimit));
+        }
         Ok(Counts {
-            right: crew,
-            ..seen
+            places: self.seen.places + 1,
+            ..self.seen
         })
     }
-}
 
-// One record, after records that hold `seen`.
-fn admit(bytes: &[u8], spot: usize, seen: Counts) -> Result<Counts, Fault>
-    requires size { length bytes.now ≡ record_size }
-    requires left { seen.left ≤ most_tokens }
-    requires right { seen.right ≤ most_tokens }
-    ensures { result ≡ admitted (reading bytes.now) spot seen }
-{
-    match Record::read(bytes).ok_or(Fault::at(Refusal::MalformedRecord, spot))? {
-        Record::Place(number) => admit_place(number, spot, seen),
-        Record::Transition(transition) => admit_transition(transition, spot, seen),
-        Record::Tokens(tokens) => admit_tokens(tokens, spot, seen),
+    // A transition record: its places are declared before it.
+    fn transition(self, transition: Transition) -> Result<Counts, Fault>
+        ensures { result ≡ admitted (moves transition.entry.place transition.entry.label transition.entry.targets.now) self.spot self.seen }
+    {
+        if transition.place >= self.seen.places || !declared(transition.targets, self.seen.places) {
+            return Err(self.fault(Refusal::UndeclaredPlace));
+        }
+        if self.seen.transitions >= MOST_TRANSITIONS || self.is_over() {
+            return Err(self.fault(Refusal::OverLimit));
+        }
+        Ok(Counts {
+            transitions: self.seen.transitions + 1,
+            ..self.seen
+        })
+    }
+
+    // A token record: its place is declared before it, and its crew has room for the tokens.
+    fn tokens(self, tokens: Tokens) -> Result<Counts, Fault>
+        ensures { result ≡ admitted (holds tokens.side tokens.place tokens.count) self.spot self.seen }
+    {
+        if tokens.place >= self.seen.places {
+            return Err(self.fault(Refusal::UndeclaredPlace));
+        }
+        if self.is_over() {
+            return Err(self.fault(Refusal::OverLimit));
+        }
+        // Kept: the side is the number that the record has, as in `Tokens`.
+        let crew = if tokens.side == 0 {
+            self.seen.left
+        } else {
+            self.seen.right
+        };
+        if tokens.count > usize::from(MOST_TOKENS) - crew {
+            return Err(self.fault(Refusal::TooManyTokens));
+        }
+        let crew = crew + tokens.count;
+        if tokens.side == 0 {
+            Ok(Counts {
+                left: crew,
+                ..self.seen
+            })
+        } else {
+            Ok(Counts {
+                right: crew,
+                ..self.seen
+            })
+        }
+    }
+
+    // What the records hold with this one, whose bytes these are, or its fault.
+    fn admit(self, bytes: &[u8]) -> Result<Counts, Fault>
+        requires { length bytes.now ≡ record_size }
+        ensures { result ≡ admitted (reading bytes.now) self.spot self.seen }
+    {
+        match Record::read(bytes).ok_or(self.fault(Refusal::MalformedRecord))? {
+            Record::Place(number) => self.place(number),
+            Record::Transition(transition) => self.transition(transition),
+            Record::Tokens(tokens) => self.tokens(tokens),
+        }
     }
 }
 
@@ -107,7 +131,7 @@ pub fn check(bytes: &[u8]) -> Result<Counts, Fault>
     let mut seen = Counts::default();
     // Kept: a record is read by its number, since the number is the spot of its fault.
     for k in 0..bytes.len() / RECORD_SIZE {
-        seen = admit(record_at(bytes, k), k, seen)?;
+        seen = Trial { spot: k, seen }.admit(record_at(bytes, k))?;
     }
     Ok(seen)
 }

@@ -1,35 +1,17 @@
 // A net written as a record file.
 ghost use Rattle.std.specs.Prelude.{◌≡◌, ◌<◌, ◌≤◌, length, take, MatchResult};
 ghost use Rattle.net.specs.Meaning.{transition, count_of, total_of};
-ghost use Rattle.records.specs.Layout.{record_targets};
 ghost use Rattle.records.specs.File.{net_of};
-ghost use Rattle.records.specs.Write.{spread, filled, place_record, transition_record, record_of, records_of, write_answer, write_after};
+ghost use Rattle.records.specs.Write.{place_record, transition_record, record_of, records_of, write_answer, write_after};
 
-use crate::layout::{NO_TARGET, PLACE_KIND, RECORD_SIZE, RECORD_TARGETS, TRANSITION_KIND};
-use net::{Fault, Net, Refusal};
+use crate::layout::{PLACE_KIND, RECORD_SIZE, TRANSITION_KIND};
+use net::{Fault, Net, Refusal, targets_of};
 
 // The record that declares a place.
 fn place_record(number: u8) -> [u8; RECORD_SIZE]
     ensures { result ≡ place_record number }
 {
     [PLACE_KIND, number, 0, 0, 0, 0, 0, 0]
-}
-
-// The targets of transition t in rising order, and no targets behind them.
-// Kept: that the net has t is asked of callers: a struct of a net and a number could carry it, but clauses would then name both by longer paths.
-fn targets_of<N: Net>(net: &N, t: usize) -> [u8; RECORD_TARGETS]
-    requires { t < count_of (N.Net.meaning net.now) }
-    ensures { result ≡ filled record_targets (spread (transition (N.Net.meaning net.now) t) (N.Net.meaning net.now).places) }
-{
-    let mut targets = [NO_TARGET; RECORD_TARGETS];
-    let mut used = 0;
-    // Kept: a walk of the targets would be no plainer: those of a place are a run of its tokens, which `fill` writes from the end of the one before.
-    for p in 0..net.places() {
-        let count = usize::from(net.tokens(t, p));
-        targets[used..used + count].fill(p as u8);
-        used += count;
-    }
-    targets
 }
 
 // The record of transition t.

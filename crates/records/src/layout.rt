@@ -12,10 +12,6 @@ pub(crate) const TOKENS_KIND: u8 = 3;
 // The targets that a transition record has room for.
 pub(crate) const RECORD_TARGETS: usize = 4;
 
-// The byte where a transition record has no target.
-// Kept: a byte of the format, which records are compared with and filled with.
-pub(crate) const NO_TARGET: u8 = 255;
-
 pub const MOST_RECORDS: usize = 2048;
 
 // The front of a file that is enough to judge it by: one record more than a file may have.

@@ -3,7 +3,7 @@ ghost use Rattle.std.specs.Prelude.{◌≡◌, ◌<◌, ◌≤◌, length};
 ghost use Rattle.records.specs.Entry.{rising, blank as all_blank, padded, below};
 ghost use Rattle.records.specs.File.{tokens_to};
 
-use crate::layout::NO_TARGET;
+use net::NO_TARGET;
 
 // Whether each target is at least the one before it.
 fn rises(targets: &[u8]) -> bool

@@ -8,11 +8,11 @@ use Rattle.records.proofs.CrewLaws.{measured}
 use Rattle.records.proofs.Verdicts.{means, reasons_rise}
 use Rattle.records.proofs.file_check.check.Goals as goal
 
-pub admit-requires-clause-left : goal.admit-requires-clause-left
-admit-requires-clause-left c = (few_to c.args.bytes.now c.loop-k.k c.loop-k.seen c.loop-k.invariant).few_left
+pub invariant_of-admit-clause-left : goal.invariant_of-admit-clause-left
+invariant_of-admit-clause-left c = (few_to c.args.bytes.now c.loop-k.k c.loop-k.seen c.loop-k.invariant).few_left
 
-pub admit-requires-clause-right : goal.admit-requires-clause-right
-admit-requires-clause-right c = (few_to c.args.bytes.now c.loop-k.k c.loop-k.seen c.loop-k.invariant).few_right
+pub invariant_of-admit-clause-right : goal.invariant_of-admit-clause-right
+invariant_of-admit-clause-right c = (few_to c.args.bytes.now c.loop-k.k c.loop-k.seen c.loop-k.invariant).few_right
 
 pub loop-k-preserved : goal.loop-k-preserved
 loop-k-preserved c =
