@@ -40,7 +40,7 @@ impl Crewed<'_> {
         ensures appended { list.new.items ≡ list.old.items ++ row_swaps (table_of self.now) p (places_of self.now) }
     {
         let mut have = self.left[p];
-        // Kept: three lists go in step with the one that is written, and what a `zip` with `iter_mut` writes, no contract knows.
+        // Kept: three lists go in step with the one that is written: what a `zip` with `iter_mut` writes, no contract knows, and by `enumerate` the others would be read by index all the same.
         for q in 0..self.classes.len() {
             let k = cell(
                 self.classes[p] == self.classes[q],

@@ -54,7 +54,7 @@ pub fn replay<N: Net + Drop>(
         return Err(Fault::plain(Refusal::ShortList));
     }
     let mut bench = Bench::new(net);
-    // Kept: the answers go in step with the calls, and what a `zip` with `iter_mut` writes, no contract knows.
+    // Kept: the answers go in step with the calls: what a `zip` with `iter_mut` writes, no contract knows, and by `enumerate` one of the two lists is read or written by index all the same.
     for (i, call) in calls.iter().enumerate() {
         answers[i] = perform(&mut bench, *call);
     }

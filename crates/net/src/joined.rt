@@ -12,10 +12,9 @@ use crate::{Fault, MOST_PLACES, MOST_TRANSITIONS, Net, Refusal};
 pub fn fit<A1: Net, B1: Net>(left: &A1, right: &B1) -> Result<(), Fault>
     ensures { result ≡ (if fitting (A1.Net.meaning left.now) (B1.Net.meaning right.now) then Ok tt else Err (plain_fault Unfit)) }
 {
-    match seam_of(left, right) {
-        Some(_) => Ok(()),
-        None => Err(Fault::plain(Refusal::Unfit)),
-    }
+    seam_of(left, right)
+        .map(|_| ())
+        .ok_or(Fault::plain(Refusal::Unfit))
 }
 
 // Where the right net begins in the joined one, and where it ends.

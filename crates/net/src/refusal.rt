@@ -54,6 +54,7 @@ pub struct Fault {
 
 impl Fault {
     // The fault of a refusal that names no spot.
+    // Kept: `Fault::from(refusal)` would be no plainer than `plain`, beside `at`.
     pub fn plain(refusal: Refusal) -> Fault
         ensures { result ≡ plain_fault refusal }
     {

@@ -129,7 +129,7 @@ pub fn check(bytes: &[u8]) -> Result<Counts, Fault>
         return Err(Fault::at(Refusal::PartialRecord, bytes.len() / RECORD_SIZE));
     }
     let mut seen = Counts::default();
-    // Kept: a record is read by its number, since the number is the spot of its fault.
+    // Kept: by a rule of the project a record is read by its number, which is the spot of its fault.
     for k in 0..bytes.len() / RECORD_SIZE {
         seen = Trial { spot: k, seen }.admit(record_at(bytes, k))?;
     }

@@ -1,5 +1,6 @@
 // The texts of a report. Each function writes at the end of the page.
 // Kept: each text is pushed part by part and not by `write!` of a type with Display: the contracts of fmt speak of success alone, and a report's text is promised for every file.
+// Kept: the two clauses of each function, since a trait that says them once, by the text as a ghost member, would want a type for each text.
 ghost use Rattle.std.specs.Prelude.{◌≡◌, ◌++◌};
 ghost use Rattle.report.specs.Text.{swap_line, swap_lines, alike_text, apart_text, spot_field, refused_text};
 ghost use Rattle.report.specs.Pages.{HasRoom};
@@ -13,9 +14,9 @@ fn put_swap(page: &mut Page, swap: Swap)
     requires { HasRoom page.old (swap_line swap) }
     ensures { page.new.bytes ≡ page.old.bytes ++ swap_line swap }
 {
-    put_number(page, swap.left as usize);
-    put_field(page, swap.right as usize);
-    put_field(page, swap.count as usize);
+    put_number(page, usize::from(swap.left));
+    put_field(page, usize::from(swap.right));
+    put_field(page, usize::from(swap.count));
     end_line(page);
 }
 
@@ -46,8 +47,8 @@ pub(crate) fn put_apart(page: &mut Page, by: Difference)
 {
     page.push_str("APART");
     put_field(page, by.class);
-    put_field(page, by.left as usize);
-    put_field(page, by.right as usize);
+    put_field(page, usize::from(by.left));
+    put_field(page, usize::from(by.right));
     end_line(page);
 }
 
@@ -67,7 +68,7 @@ pub(crate) fn put_refused(page: &mut Page, fault: Fault)
     ensures { page.new.bytes ≡ page.old.bytes ++ refused_text fault }
 {
     page.push_str("REFUSED");
-    put_field(page, fault.refusal.number() as usize);
+    put_field(page, usize::from(fault.refusal.number()));
     put_spot(page, fault.spot);
     end_line(page);
 }
