@@ -34,6 +34,21 @@ fn rings_close(rt: HostRuntime) {
     assert_eq!(rt; ring.total(5), 0);
 }
 
+// The targets of a transition stand in front, and no target behind them; one past the last transition has none.
+#[test]
+fn targets_are_listed(rt: HostRuntime) {
+    let joined = Joined::new(Ring::new(2, 0), Ring::new(3, 0));
+    assert_eq!(rt;
+        targets_of(&joined, 1),
+        [0, NO_TARGET, NO_TARGET, NO_TARGET]
+    );
+    assert_eq!(rt;
+        targets_of(&joined, 3),
+        [4, NO_TARGET, NO_TARGET, NO_TARGET]
+    );
+    assert_eq!(rt; targets_of(&joined, 5), [NO_TARGET; WIDTH]);
+}
+
 // Rings of 64 and 64 fit together; with 64 and 65 the answer is 5, and the joined net is empty.
 #[test]
 fn joins_keep_the_limits(rt: HostRuntime) {
