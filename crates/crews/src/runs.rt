@@ -1,5 +1,5 @@
 // Calls as values: one performed on a bench, or a list of them from an empty bench on.
-ghost use Rattle.std.specs.Prelude.{◌≡◌};
+ghost use Rattle.std.specs.Prelude.{◌≡◌, IfOk};
 ghost use Rattle.crews.specs.Calls.{TriedInOrder};
 ghost use Rattle.crews.specs.Benches.{Steps, Extends, ReplayedOr};
 ghost use Rattle.crews.specs.declared.call.Call.TheVariants.{Compare};
@@ -48,7 +48,8 @@ pub fn replay<N: Net + Drop>(
     calls: &[Call],
     answers: &mut [Result<Answer, Fault>],
 ) -> Result<Bench<N>, Fault>
-    ensures { ReplayedOr (N.Net.meaning net) calls.now answers.old answers.new result }
+    ensures same { IfOk result (λ bench. bench.net ≡ net) }
+    ensures replayed { ReplayedOr (N.Net.meaning net) calls.now answers.old answers.new result }
 {
     if answers.len() < calls.len() {
         return Err(Fault::plain(Refusal::ShortList));

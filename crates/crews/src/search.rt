@@ -32,7 +32,7 @@ pub(crate) fn answering<N: Net>(
             }
             break 'search u;
         }
-        unreachable()
+        unreachable!()
     }
 }
 
