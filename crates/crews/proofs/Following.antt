@@ -65,12 +65,13 @@ found_none x None e f = f
 
 -- ## Follow
 
-module _ {N : Type 0} {G : Ghosts N} (m : Meaning) (b : Bench N G) (s t : ℕ) (side : Side) (y z : Crew) (law : Lawful m) (ready : Ready m b s t side) (ey : y ≡ table_on b side) (ez : z ≡ table_on b (across_from side)) (h : Shows m b (crews_held m b)) (x : Crewed) (laid : LaidOut m b x) where
+module _ {N : Type 0} {G : Ghosts N} (m : Meaning) (b : Bench N G) {s t : ℕ} {side : Side} {y z : Crew} (law : Lawful m) (ready : Ready m b s t side) (ey : y ≡ table_on b side) (ez : z ≡ table_on b (across_from side)) (h : Shows m b (crews_held m b))
+    {x : Crewed} (laid : LaidOut m b x) where
   abbrev c : Crews
   c = crews_held m b
 
   ready_free : Free (not_ready m c s t)
-  ready_free = free_ready m b s t side y law ready ey h
+  ready_free = free_ready m b law ready ey h
 
   pub follow_apart : (d : Difference) → DiffersAt x d → (f : Fault) → f ≡ plain CrewsApart → Steps m b (Follow s t) (Err f) b
   follow_apart d at f ef = stays m b (Follow s t) f
@@ -82,7 +83,7 @@ module _ {N : Type 0} {G : Ghosts N} (m : Meaning) (b : Bench N G) (s t : ℕ) (
     paired_held = subst (λ a. Paired m a.left a.right) (laid_is m b x laid) (judged_alike m law x laid.places laid.classed level).paired
 
     enabled : 0 < get_or (on_side c s) (transition m t).place 0
-    enabled = omega (arith, token m b s t side y law ready ey, same_tokens m b s t side y law ready ey h)
+    enabled = omega (arith, token m b law ready ey, same_tokens m b law ready ey h)
 
     free_unlike : Free (unlike m c)
     free_unlike = ((λ apart. apart paired_held), tt)
@@ -110,7 +111,7 @@ module _ {N : Type 0} {G : Ghosts N} (m : Meaning) (b : Bench N G) (s t : ℕ) (
           → Steps m b (Follow s t) (Err f) b
       follow_full whole many = stays m b (Follow s t) f
           (first_back (not_ready m c s t) (unlike m c ++ overfull m c s t) f ready_free
-          (first_back (unlike m c) (overfull m c s t) f free_unlike (inl (inl (omega (arith, too_many many, sum_ready m b s t side y law ready ey whole, sum_side m b s t side y law ready ey h)), sym ef))))
+          (first_back (unlike m c) (overfull m c s t) f free_unlike (inl (inl (omega (arith, too_many many, sum_ready m b law ready ey whole, sum_side m b law ready ey h)), sym ef))))
         where
           too_many : (4097 < sum y.counts + total_of (transition m t)) ⊎ (4097 < sum z.counts + total_of (transition m t)) → 4097 < sum y.counts + total_of (transition m t)
           too_many (inl q) = q
@@ -118,13 +119,13 @@ module _ {N : Type 0} {G : Ghosts N} (m : Meaning) (b : Bench N G) (s t : ℕ) (
 
     -- ### A transition that fits
 
-    module _ (cs : List ℕ) (classed : ClassedBy m cs) where
+    module _ {cs : List ℕ} (classed : ClassedBy m cs) where
       pub some_answer : (u : ℕ) × FitsBy m cs z.counts t u
       some_answer =
           let (u, f) = some_fits m law c s t paired_held ready.known enabled in
           (u, by_from_fits m law cs classed t u ready.known z.counts (across c s) across_held f)
 
-      module _ (u : ℕ) (fits : FitsBy m cs z.counts t u) where
+      module _ {u : ℕ} (fits : FitsBy m cs z.counts t u) where
         fits_held : Fits m t u (across c s)
         fits_held = fits_from_by m law cs classed t u ready.known z.counts (across c s) across_held fits
 
@@ -142,7 +143,7 @@ module _ {N : Type 0} {G : Ghosts N} (m : Meaning) (b : Bench N G) (s t : ℕ) (
         free_overfull few = ((λ q. by_side q), tt)
           where
             own : sum (fired m t (on_side c s)) ≤ 4096
-            own = omega (arith, few, sum_side m b s t side y law ready ey h)
+            own = omega (arith, few, sum_side m b law ready ey h)
 
             by_side : (4096 < sum (fired m t (on_side c s))) ⊎ ((v : ℕ) × Fits m t v (across c s) × (4096 < sum (fired m v (across c s)))) → ⊥
             by_side (inl many) = omega (arith, many, own)
@@ -152,7 +153,7 @@ module _ {N : Type 0} {G : Ghosts N} (m : Meaning) (b : Bench N G) (s t : ℕ) (
             → sum (fired m t y.counts) ≤ 4096 → Steps m b (Follow s t) (Ok (Followed u)) b'
         follow_steps b₁ b' x w r q ex ew few =
             steps_to m b b' (Follow s t) (Ok (Followed u)) (followed m c s t u) (q.same ∙ r.same)
-            (shows_both m b b₁ b' s side x w (fired m t (on_side c s)) (fired m u (across c s)) ready.number r q (holds_after m b s t side y law ready ey h x ex) (holds_answer w ew))
+            (shows_both m b b₁ b' s side x w (fired m t (on_side c s)) (fired m u (across c s)) ready.number r q (holds_after m b law ready ey h x ex) (holds_answer w ew))
             (followed_by s t u
             (free_append (not_ready m c s t) (unlike m c ++ overfull m c s t) ready_free (free_append (unlike m c) (overfull m c s t) free_unlike (free_overfull few)))
             (answered m law c s t paired_held ready.known enabled u fits_held))

@@ -112,7 +112,7 @@ pub not_ready_steps : {N : Type 0} {G : Ghosts N} (m : Meaning) (b : Bench N G) 
     → First (not_ready m (crews_held m b) s t) f → Steps m b call (Err f) b
 not_ready_steps m b call s t rest f rows first = stays m b call f (subst (λ (ws : List Row). First ws f) (sym rows) (first_front (not_ready m (crews_held m b) s t) rest f first))
 
-module _ {N : Type 0} {G : Ghosts N} (m : Meaning) (b : Bench N G) (s t : ℕ) (side : Side) (y : Crew) (law : Lawful m) (ready : Ready m b s t side) (ey : y ≡ table_on b side) where
+module _ {N : Type 0} {G : Ghosts N} (m : Meaning) (b : Bench N G) {s t : ℕ} {side : Side} {y : Crew} (law : Lawful m) (ready : Ready m b s t side) (ey : y ≡ table_on b side) where
   pub token : 1 ≤ get_or y.counts (transition m t).place 0
   token = rw ey ready.token
 

@@ -26,8 +26,8 @@ returns-then-from-room g c =
     let y = c.crew-crew.result in
     let ready = c.in_ok-side.ensures in
     let whole : length y.counts ≡ 128 = search rules in
-    let all = sum_ready m b c.args.side c.args.transition c.in_ok-side.side y law ready c.crew-crew.ensures whole in
-    fire_crowded m b c.args.side c.args.transition c.in_ok-side.side y law ready c.crew-crew.ensures (shows_held b (search rules) (search rules)) c.plain.result c.plain.ensures
+    let all = sum_ready m b law ready c.crew-crew.ensures whole in
+    fire_crowded m b law ready c.crew-crew.ensures (shows_held b (search rules) (search rules)) c.plain.result c.plain.ensures
     (omega (arith, all, c.if-from-room.true, c.room.ensures, c.total.ensures, c.from.ensures))
 
 pub fire-requires-clause-fits : goal.fire-requires-clause-fits
@@ -37,14 +37,14 @@ fire-requires-clause-fits g c =
     let y = c.crew-crew.result in
     let ready = c.in_ok-side.ensures in
     let whole : length y.counts ≡ 128 = search rules in
-    let all = sum_ready m b c.args.side c.args.transition c.in_ok-side.side y (g.N.Net.lawful b.net) ready c.crew-crew.ensures whole in
+    let all = sum_ready m b (g.N.Net.lawful b.net) ready c.crew-crew.ensures whole in
     omega (arith, all, c.if-from-room.false, c.room.ensures, c.total.ensures, c.from.ensures)
 
 pub replace-requires : goal.replace-requires
 replace-requires g c =
     let b = c.args.self.now in
     let m = g.N.Net.meaning b.net in
-    holds_ends _ _ _ (holds_after m b c.args.side c.args.transition c.in_ok-side.side c.crew-crew.result (g.N.Net.lawful b.net) c.in_ok-side.ensures c.crew-crew.ensures (shows_held b (search rules) (search rules)) c.fire.new.self c.fire.ensures)
+    holds_ends _ _ _ (holds_after m b (g.N.Net.lawful b.net) c.in_ok-side.ensures c.crew-crew.ensures (shows_held b (search rules) (search rules)) c.fire.new.self c.fire.ensures)
 
 pub returns : goal.returns
 returns g c =
@@ -54,6 +54,6 @@ returns g c =
     let y = c.crew-crew.result in
     let ready = c.in_ok-side.ensures in
     let whole : length y.counts ≡ 128 = search rules in
-    let all = sum_ready m b c.args.side c.args.transition c.in_ok-side.side y law ready c.crew-crew.ensures whole in
-    fire_steps m b c.args.side c.args.transition c.in_ok-side.side y law ready c.crew-crew.ensures (shows_held b (search rules) (search rules)) c.replace.new.self c.fire.new.self c.replace.ensures c.fire.ensures
+    let all = sum_ready m b law ready c.crew-crew.ensures whole in
+    fire_steps m b law ready c.crew-crew.ensures (shows_held b (search rules) (search rules)) c.replace.new.self c.fire.new.self c.replace.ensures c.fire.ensures
     (omega (arith, all, c.if-from-room.false, c.room.ensures, c.total.ensures, c.from.ensures))
