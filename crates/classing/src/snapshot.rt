@@ -28,7 +28,6 @@ pub struct Snapshot {
 
 // Transition t, asked of the net.
 fn ask<N: Net>(net: &N, t: usize) -> Move
-    requires { t < count_of (N.Net.meaning net.now) }
     ensures { Keeps (N.Net.meaning net.now).places (transition (N.Net.meaning net.now) t) result }
 {
     Move {

@@ -16,7 +16,6 @@ fn place_record(number: u8) -> [u8; RECORD_SIZE]
 
 // The record of transition t.
 fn transition_record<N: Net>(net: &N, t: usize) -> [u8; RECORD_SIZE]
-    requires { t < count_of (N.Net.meaning net.now) }
     ensures { result ≡ transition_record (N.Net.meaning net.now).places (transition (N.Net.meaning net.now) t) }
 {
     let place = net.place(t) as u8;
@@ -35,7 +34,6 @@ fn transition_record<N: Net>(net: &N, t: usize) -> [u8; RECORD_SIZE]
 
 // Record k of a net's file: the places come first, then the transitions.
 fn record_of<N: Net>(net: &N, k: usize) -> [u8; RECORD_SIZE]
-    requires { k < records_of (N.Net.meaning net.now) }
     ensures { result ≡ record_of (N.Net.meaning net.now) k }
 {
     let places = net.places();
