@@ -7,6 +7,7 @@ use crate::groups::{Placed, STARTS};
 use net::{MOST_PLACES, MOST_TRANSITIONS, NO_TARGET, Net, WIDTH, targets_of};
 
 // A transition: its place, its label, and a target for each token that it puts down.
+// The default one fills room that is not used.
 #[derive(Clone, Copy, Default)]
 pub struct Move {
     pub place: u8,
@@ -15,7 +16,7 @@ pub struct Move {
 }
 
 // The transitions of a net, and the numbers of those of each place.
-// Kept: by a rule of the project the room is an array of a fixed size; the count is how much of it is used.
+// Kept: the count bounds the moves, the order and the profiles alike; in an `ArrayVec` of the moves it would be theirs alone, and no plainer.
 #[derive(Drop)]
 pub struct Snapshot {
     pub places: usize,

@@ -81,7 +81,7 @@ impl Trial {
         if self.is_over() {
             return Err(self.fault(Refusal::OverLimit));
         }
-        // Kept: the side is the number that the record has, as in `Tokens`.
+        // Kept: the side is a number, as in `Tokens`, which puts it into calls that take one.
         let crew = if tokens.side == 0 {
             self.seen.left
         } else {

@@ -16,7 +16,7 @@ pub(crate) fn index_of(bytes: &[u8]) -> [u16; MOST_TRANSITIONS]
     let mut starts = [0u16; MOST_TRANSITIONS];
     // Kept: only some records are transitions, so that their numbers are written by a count of its own; what a `zip` with `iter_mut` writes, no contract knows.
     for k in 0..bytes.len() / RECORD_SIZE {
-        // Kept: a match of byte 0 in place of this reading, which tells an admitted record's kind as well, was tried: it is no plainer, since it takes a law of its own and a third way in the proof.
+        // The record was admitted, so that byte 0 would tell its kind as well, but by a law of its own.
         if Transition::read(record_at(bytes, k)).is_some() {
             starts[count] = k as u16;
             count += 1;

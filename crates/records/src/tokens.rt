@@ -9,7 +9,7 @@ use crate::record::Record;
 // So many tokens on a place of a side, 0 for the left crew and 1 for the right.
 #[derive(Clone, Copy, PartialEq, Eq, Debug)]
 pub struct Tokens {
-    // Kept: the side is a number, since the calls that take it have a refusal for one above 1.
+    // Kept: the side is a number, since an enum would be turned back into one for each call that takes it.
     pub side: usize,
     pub place: usize,
     pub count: usize,

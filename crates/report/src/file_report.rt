@@ -15,7 +15,7 @@ use records::check;
 pub const REPORT_SIZE: usize = 4096;
 
 // The verdict on the crews of a file, with the swap list at the front of the entries, or the fault of a file that the check refuses.
-// Kept: a verdict beside its entries, as `compare` leaves them: `perform` gives both as an answer, four cases of which cannot come here.
+// Kept: a verdict beside its entries, as `compare` leaves them: `perform` gives both as an answer, three cases of which cannot come here.
 fn judge(bytes: &[u8], entries: &mut [Swap; MOST_SWAPS]) -> Result<Verdict, Fault>
     ensures { Judges bytes.now entries.new result }
 {
