@@ -1,8 +1,8 @@
 // A net written as a record file.
-ghost use Rattle.std.specs.Prelude.{◌≡◌, ◌<◌, ◌≤◌, length, take, MatchResult};
-ghost use Rattle.net.specs.Meaning.{transition, count_of, total_of};
+ghost use Rattle.std.specs.Prelude.{◌≡◌, take, MatchResult};
+ghost use Rattle.net.specs.Meaning.{transition};
 ghost use Rattle.records.specs.File.{net_of};
-ghost use Rattle.records.specs.Write.{place_record, transition_record, record_of, records_of, write_answer, write_after};
+ghost use Rattle.records.specs.Write.{place_record, transition_record, record_of, write_answer, write_after};
 
 use crate::layout::{PLACE_KIND, RECORD_SIZE, TRANSITION_KIND};
 use net::{Fault, Net, Refusal, targets_of};
