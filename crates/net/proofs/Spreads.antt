@@ -120,9 +120,6 @@ pub record Spreading (m : Meaning) (t p found left : ℕ) (targets : List ℕ) :
   pub written : targets ≡ filled most_total (spread (transition m t) p ++ replicate put p)
 
 module _ (m : Meaning) (law : Lawful m) (t : ℕ) where
-  pub spreading_none : (left : ℕ) (targets : List ℕ) → left ≡ tokens_on (transition m t) 0 → targets ≡ filled most_total [] → Spreading m t 0 0 left targets
-  spreading_none left targets all blank = record { put = 0; here = omega arith; place = omega arith; inside = λ h. absurd (omega arith); found_is = refl; written = blank }
-
   module _ (p found left : ℕ) (targets : List ℕ) (S : Spreading m t p found left targets) where
     found_sum : found ≡ length (spread (transition m t) p) + S.put
     found_sum = omega (arith, S.found_is, length-append (spread (transition m t) p) (replicate S.put p), length-replicate S.put p)

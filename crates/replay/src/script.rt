@@ -16,7 +16,8 @@ pub(crate) fn add_script(rt: &HostRuntime, calls: &mut Vec<Call>) -> Result<(), 
     let mut outcome = Ok(());
     for (i, line) in text.as_str().lines().enumerate() {
         match read_line(line) {
-            Ok(call) => calls.extend(call)?,
+            Ok(None) => {}
+            Ok(Some(call)) => calls.push(call)?,
             Err(NotACall) => {
                 let n = i.saturating_add(1);
                 eprintln!(rt; "line {n}: not a call: {line}")?;
