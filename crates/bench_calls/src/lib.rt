@@ -16,7 +16,7 @@ const REFUSED: usize = 1000;
 // The transitions that stand in the bytes, one after the other, as far as there is room for them.
 fn read(bytes: &[u8]) -> ArrayVec<Move, MOST_TRANSITIONS> {
     let mut rows = ArrayVec::new();
-    for row in bytes.chunks_exact(ROW) {
+    for row in bytes.chunks_exact(ROW).take(MOST_TRANSITIONS) {
         if let [place, label, a, b, c, d] = *row
             && !rows.is_full()
         {

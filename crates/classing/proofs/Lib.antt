@@ -3,7 +3,6 @@ pub mod Targets
 pub mod Grouping
 pub mod Ordering
 pub mod Runs
-pub mod Mapped
 pub mod Profiles
 pub mod Equal
 pub mod Fronts

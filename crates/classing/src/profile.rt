@@ -32,16 +32,16 @@ fn class_at(table: &ClassTable, target: u8) -> u8
         .unwrap_or(NO_TARGET)
 }
 
-// The profile of one move.
-fn describe(this: &Move, table: &ClassTable) -> Profile
-    ensures { ProfileOf table.now.classes this.now result }
+// Writes the profile of one move.
+// Kept: it is written where it stays. Profiles that are handed back were proved, by `map` of the targets and by a list of their own, and with them a net of many transitions takes 1.4 times as long.
+fn describe(this: &Move, table: &ClassTable, profile: &mut Profile)
+    ensures { ProfileOf table.now.classes this.now profile.new }
 {
-    let mut classes = this.targets.map(|target| class_at(table, target));
-    classes.sort_unstable();
-    Profile {
-        label: this.label,
-        classes,
+    profile.label = this.label;
+    for (j, class) in profile.classes.iter_mut().enumerate() {
+        *class = class_at(table, this.targets[j]);
     }
+    profile.classes.sort_unstable();
 }
 
 // Writes the profile of each move, in the snapshot's order.
@@ -54,6 +54,10 @@ pub(crate) fn describe_all(
 {
     // Kept: the order is read by index, since no contract knows what a `zip` with `iter_mut` writes.
     for (k, profile) in profiles[..snapshot.count].iter_mut().enumerate() {
-        *profile = describe(&snapshot.moves[usize::from(snapshot.order[k])], table);
+        describe(
+            &snapshot.moves[usize::from(snapshot.order[k])],
+            table,
+            profile,
+        );
     }
 }

@@ -38,20 +38,14 @@ fn ask<N: Net>(net: &N, t: usize) -> Move
     }
 }
 
-// The transitions of the net. What stands behind them says nothing.
-fn ask_all<N: Net>(net: &N) -> [Move; MOST_TRANSITIONS]
-    ensures { (t : ℕ) → t < count_of (N.Net.meaning net.now) → Keeps (N.Net.meaning net.now).places (transition (N.Net.meaning net.now) t) (slice_index_or result t no_move) }
+// Writes the transitions of the net over the front of the moves. What stands behind them says nothing.
+// Kept: they are written into moves of the caller, since moves that are handed back are copied once more.
+fn ask_all<N: Net>(net: &N, moves: &mut [Move; MOST_TRANSITIONS])
+    ensures { (t : ℕ) → t < count_of (N.Net.meaning net.now) → Keeps (N.Net.meaning net.now).places (transition (N.Net.meaning net.now) t) (slice_index_or moves.new t no_move) }
 {
-    let mut moves = [Move {
-        place: 0,
-        label: 0,
-        targets: [NO_TARGET; WIDTH],
-    }; MOST_TRANSITIONS];
-    let count = net.transitions();
-    for (t, this) in moves[..count].iter_mut().enumerate() {
+    for (t, this) in moves[..net.transitions()].iter_mut().enumerate() {
         *this = ask(net, t);
     }
-    moves
 }
 
 impl Snapshot {
@@ -62,7 +56,12 @@ impl Snapshot {
         ensures { Shows (N.Net.meaning net.now) result }
     {
         let count = net.transitions();
-        let moves = ask_all(net);
+        let mut moves = [Move {
+            place: 0,
+            label: 0,
+            targets: [NO_TARGET; WIDTH],
+        }; MOST_TRANSITIONS];
+        ask_all(net, &mut moves);
         let placed = Placed {
             moves: &moves[..count],
         };

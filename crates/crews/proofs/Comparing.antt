@@ -41,11 +41,11 @@ module _ {N : Type 0} {G : Ghosts N} (m : Meaning) (b : Bench N G) (law : Lawful
     now_is = refl;
   }
 
--- ## A comparison into the first entries of a list of 256 is one into a list with that room
+-- ## A comparison into the first entries of a list that is long enough is one into a list with that room
 
-module _ {N : Type 0} {G : Ghosts N} (m : Meaning) (b : Bench N G) (room : ℕ) (before after : List Swap) (e : length before ≡ min room 256) (few : m.places ≤ 128) where
+module _ {N : Type 0} {G : Ghosts N} (m : Meaning) (b : Bench N G) (room width : ℕ) (wide : 2 * m.places ≤ width) (before after : List Swap) (e : length before ≡ min room width) where
   free_room : Free (cramped m (length before)) → Free (cramped m room)
-  free_room free = ((λ short. free.0 (omega (arith, short, e, few))), tt)
+  free_room free = ((λ short. free.0 (omega (arith, short, e, wide))), tt)
 
   pub compared_alike : (used : ℕ) (rest entries : List Swap) → Written m (crews_held m b) before after used → entries ≡ after ++ rest → Steps m b (Compare room) (Ok (Alike (record { entries = entries; used = used }))) b
   compared_alike used rest entries w ee =
@@ -63,5 +63,5 @@ module _ {N : Type 0} {G : Ghosts N} (m : Meaning) (b : Bench N G) (room : ℕ) 
   compared_refused f refusal = record { same = refl; leads = refused f (as_room refusal.first) }
     where
       as_room : First (cramped m (length before)) f → First (cramped m room) f
-      as_room (inl (short, same)) = inl (omega (arith, short, e, few), same)
+      as_room (inl (short, same)) = inl (omega (arith, short, e, wide), same)
       as_room (inr (no_short, none)) = absurd none

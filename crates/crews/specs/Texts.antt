@@ -5,7 +5,6 @@ use Rattle.crews.specs.declared.call.Call.{Call}
 use Rattle.crews.specs.declared.call.Call.TheVariants.{Put, Take, Fire, Follow, Count, Compare}
 use Rattle.crews.specs.declared.call.Answer.{Answer}
 use Rattle.crews.specs.declared.call.Answer.TheVariants.{Done, Tokens, Followed, Alike, Apart}
-use Rattle.crews.specs.declared.swap.TheConstants.{MOST_SWAPS}
 use Rattle.crews.specs.declared.swap.Swap.{Swap}
 use Rattle.crews.specs.declared.swap.SwapList.{SwapList}
 use Rattle.crews.specs.declared.swap.Difference.{Difference}
@@ -17,14 +16,14 @@ two_numbers a b = decimal a ++ (codes " " ++ decimal b)
 abbrev pub three_numbers : ℕ → ℕ → ℕ → List ℕ
 three_numbers a b c = decimal a ++ (codes " " ++ two_numbers b c)
 
--- a call as a script has it: its name and its numbers
+-- a call as a script has it: its name and its numbers; a comparison into 256 entries is the plain one
 abbrev pub call_text : Call → List ℕ
 call_text (Put s p k) = codes "put " ++ three_numbers s p k
 call_text (Take s p k) = codes "take " ++ three_numbers s p k
 call_text (Fire s t) = codes "fire " ++ two_numbers s t
 call_text (Follow s t) = codes "follow " ++ two_numbers s t
 call_text (Count s p) = codes "count " ++ two_numbers s p
-call_text (Compare room) = if room == MOST_SWAPS then codes "compare" else codes "compare " ++ decimal room
+call_text (Compare room) = if room == 256 then codes "compare" else codes "compare " ++ decimal room
 
 -- an entry of a swap list
 abbrev pub swap_text : Swap → List ℕ

@@ -1,5 +1,5 @@
 -- The targets of a transition: as many as its tokens, each one a place, and each place as often as it is put a token.
-use Rattle.std.proofs.Common.{◌≡◌, ℕ, zero, suc, ◌+◌, ◌-◌, ◌<◌, ◌≤◌, Bool, true, false, cond, eqb, ◌⊎◌, List, ◌∷◌, [], ◌++◌, length, get_or, set, take, replicate, sum, sym, refl, ap, ◌∙◌, subst, inl, inr, ⊎_elim, add-one, arith, length-append}
+use Rattle.std.proofs.Common.{◌≡◌, ℕ, zero, suc, ◌+◌, ◌-◌, ◌<◌, ◌≤◌, Bool, true, false, cond, eqb, ◌⊎◌, List, ◌∷◌, [], ◌++◌, length, get_or, set, take, replicate, sum, sym, refl, ap, ap₂, ◌∙◌, subst, inl, inr, ⊎_elim, add-one, arith, length-append}
 use Rattle.std.specs.Prelude.{count_by, nat_eq}
 use Rattle.std.proofs.Math.Seq.{set-append_seam, get_or-append_right}
 use Rattle.std.proofs.lemmas.List.{append-nil, append_assoc, length-replicate, take_all, get_or_append_left, get_or-replicate, get_or_past, replicate-append-replicate}
@@ -10,6 +10,10 @@ use Rattle.net.specs.Limits.{Within, Lawful, most_total}
 use Rattle.net.specs.Targets.{no_target, spread, filled}
 
 -- ## As many targets as tokens
+
+cases_none : (k : ℕ) → (k ≡ 0) ⊎ (0 < k)
+cases_none zero = inl refl
+cases_none (suc k) = inr (omega arith)
 
 spread_more : (t : Transition) (p : ℕ) → length (spread t (suc p)) ≡ length (spread t p) + tokens_on t p
 spread_more t p = omega (arith, length-append (spread t p) (replicate (tokens_on t p) p), length-replicate (tokens_on t p) p)
@@ -103,6 +107,75 @@ filled_more width ts p h =
 
 pub one_more : (t : Transition) (p c : ℕ) → (spread t p ++ replicate c p) ++ p ∷ [] ≡ spread t p ++ replicate (c + 1) p
 one_more t p c = append_assoc (spread t p) (replicate c p) (p ∷ []) ∙ ap (λ xs. spread t p ++ xs) (replicate-append-replicate c 1 p)
+
+-- ## One place after the other
+
+-- the targets on the places before p are written, and of those on p all but `left`
+pub record Spreading (m : Meaning) (t p found left : ℕ) (targets : List ℕ) : Type 0 where
+  pub put : ℕ
+  pub here : put + left ≡ tokens_on (transition m t) p
+  pub place : p ≤ m.places
+  pub inside : 0 < put → p < m.places
+  pub found_is : found ≡ length (spread (transition m t) p ++ replicate put p)
+  pub written : targets ≡ filled most_total (spread (transition m t) p ++ replicate put p)
+
+module _ (m : Meaning) (law : Lawful m) (t : ℕ) where
+  module _ (p found left : ℕ) (targets : List ℕ) (S : Spreading m t p found left targets) where
+    found_sum : found ≡ length (spread (transition m t) p) + S.put
+    found_sum = omega (arith, S.found_is, length-append (spread (transition m t) p) (replicate S.put p), length-replicate S.put p)
+
+    -- while tokens are missing, there is a place to ask, and room
+    pub spreading_place : found < total_of (transition m t) → p < m.places
+    spreading_place h = place_left m law t p S.place (omega (arith, found_sum))
+
+    pub spreading_room : found < total_of (transition m t) → found < most_total
+    spreading_room h = omega (arith, total_few m law t)
+
+    pub spreading_more : found < total_of (transition m t) → 0 < left → Spreading m t p (found + 1) (left - 1) (set targets found p)
+    spreading_more h l =
+        let ts = spread (transition m t) p ++ replicate S.put p in
+        let one : ts ++ p ∷ [] ≡ spread (transition m t) p ++ replicate (S.put + 1) p = one_more (transition m t) p S.put in
+        record {
+          put = S.put + 1;
+          here = omega (arith, S.here);
+          place = S.place;
+          inside = λ _. spreading_place h;
+          found_is = omega (arith, S.found_is, ap length one, length-append ts (p ∷ []));
+          written = ap₂ (λ xs i. set xs i p) S.written S.found_is ∙ filled_more most_total ts p (omega (arith, spreading_room h, S.found_is)) ∙ ap (filled most_total) one;
+        }
+
+    -- all tokens of p stand
+    all_here : S.put ≡ tokens_on (transition m t) p → spread (transition m t) p ++ replicate S.put p ≡ spread (transition m t) (p + 1)
+    all_here all = ap (λ k. spread (transition m t) p ++ replicate k p) all ∙ ap (spread (transition m t)) (sym (add-one p))
+
+    pub spreading_next : found < total_of (transition m t) → left ≡ 0 → (next : ℕ) → next ≡ tokens_on (transition m t) (p + 1) → Spreading m t (p + 1) found next targets
+    spreading_next h none next all =
+        let is : spread (transition m t) p ++ replicate S.put p ≡ spread (transition m t) (p + 1) ++ replicate 0 (p + 1) = all_here (omega (arith, S.here)) ∙ sym (append-nil (spread (transition m t) (p + 1))) in
+        record {
+          put = 0;
+          here = omega arith;
+          place = omega (arith, spreading_place h);
+          inside = λ h. absurd (omega arith);
+          found_is = S.found_is ∙ ap length is;
+          written = S.written ∙ ap (filled most_total) is;
+        }
+
+    pub spreading_done : total_of (transition m t) ≤ found → targets ≡ filled most_total (spread (transition m t) m.places)
+    spreading_done h = S.written ∙ ap (filled most_total) (⊎_elim before last (cases_lt p m.places))
+      where
+        before : p < m.places → spread (transition m t) p ++ replicate S.put p ≡ spread (transition m t) m.places
+        before l =
+            let e : p + 1 ≡ suc p = add-one p in
+            let more : length (spread (transition m t) (p + 1)) ≡ length (spread (transition m t) p) + tokens_on (transition m t) p = ap (λ k. length (spread (transition m t) k)) e ∙ spread_more (transition m t) p in
+            let most : length (spread (transition m t) (p + 1)) ≤ length (spread (transition m t) m.places) = spread_grows (transition m t) m.places (p + 1) (omega arith) in
+            let all : S.put ≡ tokens_on (transition m t) p = omega (arith, found_sum, S.here, total_spread m law t) in
+            all_here all ∙ all_found m law t (p + 1) (omega arith) (omega (arith, found_sum))
+
+        last : m.places ≤ p → spread (transition m t) p ++ replicate S.put p ≡ spread (transition m t) m.places
+        last l =
+            let none : S.put ≡ 0 = ⊎_elim (λ e. e) (λ g. absurd (omega (arith, S.inside g))) (cases_none S.put) in
+            let at_end : p ≡ m.places = omega (arith, S.place) in
+            ap (λ k. spread (transition m t) p ++ replicate k p) none ∙ append-nil (spread (transition m t) p) ∙ ap (spread (transition m t)) at_end
 
 -- ## Each place as often as it is put a token
 

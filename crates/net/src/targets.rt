@@ -21,13 +21,18 @@ pub fn targets_of<N: Net>(net: &N, t: usize) -> [u8; WIDTH]
     let total = usize::from(net.total(t));
     let mut found: usize = 0;
     // Kept: a `for` over the places in place of this `while` was proved, with `fill` and without, and then the ring misses the bar that this loop meets.
+    // A second loop, over the tokens of a place, was proved too: it becomes a call that fills memory, for each place that gets a token.
     let mut p: usize = 0;
+    let mut left = net.tokens(t, 0);
     while found < total {
-        for _ in 0..net.tokens(t, p) {
+        if left > 0 {
             targets[found] = p as u8;
             found += 1;
+            left -= 1;
+        } else {
+            p += 1;
+            left = net.tokens(t, p);
         }
-        p += 1;
     }
     targets
 }

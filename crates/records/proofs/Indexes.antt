@@ -1,10 +1,12 @@
 -- The steps of the index.
-use Rattle.std.proofs.Common.{sym, take, set, length-set, ◌≡◌, ℕ, zero, suc, ◌+◌, ◌-◌, ◌<◌, ◌≤◌, Bool, true, false, cond, List, [], ◌∷◌, ◌++◌, length, ap, ◌∙◌, subst, add-zero, add-suc, add-one, arith, length-append}
+use Rattle.std.proofs.Common.{sym, take, set, length-set, ◌≡◌, ℕ, zero, suc, ◌+◌, ◌-◌, ◌<◌, ◌≤◌, Bool, true, false, cond, List, [], ◌∷◌, ◌++◌, length, ap, ◌∙◌, subst, ⊎_elim, add-zero, add-suc, add-one, arith, length-append}
 use Rattle.std.proofs.lemmas.List.{take_more_set}
 use Rattle.net.specs.Limits.{most_transitions}
-use Rattle.records.specs.Layout.{most_records, record_count, record_at}
+use Rattle.std.proofs.lemmas.Bool.{cases_Bool}
+use Rattle.records.specs.Layout.{most_records, transition_kind, record_count, record_at, at}
 use Rattle.records.specs.Entry.{is_transition, reading}
-use Rattle.records.specs.CheckLaws.{Few, few_to, few_records, counts_are}
+use Rattle.records.specs.EntryLaws.{moving_bytes, kind_moves}
+use Rattle.records.specs.CheckLaws.{Few, few_to, few_records, counts_are, passed_at}
 use Rattle.records.specs.File.{sound, transition_records}
 use Rattle.records.specs.FileLaws.{Admits, admits, length_transition_records}
 
@@ -38,6 +40,13 @@ module _ (b : List ℕ) (ok : sound b ≡ true) where
 
   pub number_small : (k : ℕ) → k < record_count b → k < most_records
   number_small k h = omega (arith, few_records b (record_count b) all.counts all.all)
+
+  -- the kind of an admitted record tells whether it is a transition record
+  pub kind_yes : (k : ℕ) → k < record_count b → at (record_at b k) 0 ≡ transition_kind → is_transition (reading (record_at b k)) ≡ true
+  kind_yes k h kind = kind_moves (record_at b k) (passed_at b (record_count b) all.counts all.all k h).formed kind
+
+pub kind_no : (b : List ℕ) (k : ℕ) → (at (record_at b k) 0 ≡ transition_kind → ⊥) → is_transition (reading (record_at b k)) ≡ false
+kind_no b k other = ⊎_elim (λ e. absurd (other (moving_bytes (record_at b k) e).kind)) (λ e. e) (cases_Bool (is_transition (reading (record_at b k))))
 
 -- the numbers of the transition records among the first k, in the front of the table
 pub record Indexed (b : List ℕ) (k count : ℕ) (starts : List ℕ) : Type 0 where

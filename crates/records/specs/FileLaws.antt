@@ -10,10 +10,10 @@ use Rattle.net.specs.Refusals.{at_spot}
 use Rattle.net.specs.Meaning.{Transition, transition, idle, count_of, empty}
 use Rattle.net.specs.Limits.{Lawful, Within, most_places, most_transitions}
 use Rattle.records.specs.declared.counts.Counts.{Counts}
-use Rattle.records.specs.Layout.{record_size, record_count, record_at}
-use Rattle.records.specs.Entry.{Entry, declares, moves, holds, broken, is_transition, below, reading}
+use Rattle.records.specs.Layout.{record_size, record_count, record_at, at}
+use Rattle.records.specs.Entry.{Entry, declares, moves, holds, broken, is_transition, below, targets_of, reading}
 use Rattle.records.specs.Check.{counted, known, checked_to, checked, counts_of}
-use Rattle.records.specs.EntryLaws.{Moving, moving}
+use Rattle.records.specs.EntryLaws.{Moving, MovingBytes, moving, moving_bytes}
 use Rattle.records.specs.CheckLaws.{err_not_ok, Few, Before, before, counts_are, few_to, places_grow}
 use Rattle.records.specs.File.{sound, tokens_to, transition_of, transition_records, declared_places, declared_net, net_of, admitted_records, picked}
 use Rattle.records.specs.TargetLaws.{below_more, sum_tokens}
@@ -82,6 +82,19 @@ pub record Placed (e : Entry) (n : ℕ) : Type 0 where
   pub move : Moving e
   pub place_known : move.place < n
   pub targets_known : below n move.targets ≡ true
+
+-- the same of the bytes of its record
+pub record PlacedBytes (r : List ℕ) (n : ℕ) : Type 0 where
+  pub move : MovingBytes r
+  pub place_known : at r 1 < n
+  pub targets_known : below n (targets_of r) ≡ true
+
+pub placed_bytes : (r : List ℕ) (n : ℕ) → Placed (reading r) n → PlacedBytes r n
+placed_bytes r n p =
+    let m = moving_bytes r (ap is_transition p.move.is) in
+    let place : p.move.place ≡ at r 1 = cc (m.is, p.move.is) in
+    let targets : p.move.targets ≡ targets_of r = cc (m.is, p.move.is) in
+    record { move = m; place_known = omega (arith, p.place_known); targets_known = ap (below n) (sym targets) ∙ p.targets_known }
 
 placed_more : (e : Entry) (n m : ℕ) → n ≤ m → Placed e n → Placed e m
 placed_more e n m h p = record { move = p.move; place_known = omega (arith, p.place_known); targets_known = below_more n m p.move.targets h p.targets_known }

@@ -40,6 +40,8 @@ impl<'a> Record<'a> {
 
     // What the bytes of a record say, or none where they break its form.
     // Kept: the bytes are a slice whose length each reader requires, since the project takes a record apart as a slice of 8 bytes.
+    // Inlined, so that each reader does only what it asks: out of line the file check takes half as long again.
+    #[inline(always)]
     pub(crate) fn read(bytes: &'a [u8]) -> Option<Record<'a>>
         requires { length bytes.now ≡ record_size }
         ensures { entry_of result ≡ reading bytes.now }
@@ -77,18 +79,6 @@ impl<'a> Transition<'a> {
             label,
             targets: &bytes[..total],
         })
-    }
-
-    // The transition that the bytes of a record say, if they say one.
-    pub(crate) fn read(bytes: &'a [u8]) -> Option<Transition<'a>>
-        requires { length bytes.now ≡ record_size }
-        ensures kind { is_some result ≡ is_transition (reading bytes.now) }
-        ensures value { IfSome result (λ x. reading bytes.now ≡ moves x.place x.label x.targets.now) }
-    {
-        match Record::read(bytes)? {
-            Record::Transition(transition) => Some(transition),
-            _ => None,
-        }
     }
 
     // The transition of a record that says one, as is known of an admitted file's: nothing of its form is tried again.

@@ -40,5 +40,12 @@ pub(crate) fn tokens_to(targets: &[u8], p: usize) -> u8
     requires { length targets.now < 256 }
     ensures { result ≡ tokens_to targets.now p }
 {
-    targets.iter().filter(|t| usize::from(**t) == p).count() as u8
+    // Kept: `filter` and `count` in place of this loop were proved, and with them a question about a file's transition takes 1.3 times as long.
+    let mut tokens: u8 = 0;
+    for t in targets {
+        if usize::from(*t) == p {
+            tokens += 1;
+        }
+    }
+    tokens
 }

@@ -64,9 +64,12 @@ fn over_file(rt: &HostRuntime, path: &str) -> Result<(), Stop> {
 
 // The tokens of both files are put first, the right one's on places moved up by the left net's.
 fn over_files(rt: &HostRuntime, left: &str, right: &str) -> Result<(), Stop> {
-    // both are tried, so that each that cannot be read is told
-    let (left_bytes, right_bytes) = (read_file(rt, left), read_file(rt, right));
-    let (left_bytes, right_bytes) = (left_bytes?, right_bytes?);
+    let left_bytes = match read_file(rt, left) {
+        // the right one is tried all the same, so that each that cannot be read is told
+        Err(Stop::Told) => return read_file(rt, right).and(Err(Stop::Told)),
+        read => read?,
+    };
+    let right_bytes = read_file(rt, right)?;
     let left_net = file_net(left_bytes.as_slice())?;
     let right_net = file_net(right_bytes.as_slice())?;
     fit(&left_net, &right_net).map_err(Stop::Refused)?;

@@ -15,9 +15,9 @@ pub(crate) fn add_script(rt: &HostRuntime, calls: &mut Vec<Call>) -> Result<(), 
     let text = String::from_utf8_lossy(heap, bytes.as_slice())?;
     let mut outcome = Ok(());
     for (i, line) in text.as_str().lines().enumerate() {
-        let words: Vec<&str> = line.split_whitespace().collect(heap)?;
-        match read_line(words.as_slice()) {
-            Ok(call) => calls.extend(call)?,
+        match read_line(line) {
+            Ok(None) => {}
+            Ok(Some(call)) => calls.push(call)?,
             Err(NotACall) => {
                 let n = i.saturating_add(1);
                 eprintln!(rt; "line {n}: not a call: {line}")?;
@@ -28,42 +28,54 @@ pub(crate) fn add_script(rt: &HostRuntime, calls: &mut Vec<Call>) -> Result<(), 
     outcome
 }
 
-// The call that the words of a line make, or none where it is blank, or a remark that begins with #.
-fn read_line(words: &[&str]) -> Result<Option<Call>, NotACall> {
-    match *words {
-        [] => Ok(None),
-        [first, ..] if first.starts_with('#') => Ok(None),
-        _ => read_call(words).map(Some).ok_or(NotACall),
+// The call that a line makes, or none where it is blank, or a remark that begins with #.
+fn read_line(line: &str) -> Result<Option<Call>, NotACall> {
+    let mut words = line.split_whitespace();
+    match words.next() {
+        None => Ok(None),
+        Some(first) if first.starts_with('#') => Ok(None),
+        Some(name) => {
+            // no call has more than three numbers, and a fourth word behind the name tells that there are too many
+            let mut numbers = [None; 4];
+            // Kept: by index, since what `iter_mut` lends would hold words, which the borrow checker does not cover.
+            for i in 0..numbers.len() {
+                numbers[i] = words.next();
+                if numbers[i].is_none() {
+                    break;
+                }
+            }
+            read_call(name, numbers).map(Some).ok_or(NotACall)
+        }
     }
 }
 
 // A call by its name, with its numbers in the words after it and nothing more.
-fn read_call(words: &[&str]) -> Option<Call> {
-    let call = match *words {
-        ["put", side, place, count] => Call::Put {
+fn read_call(name: &str, numbers: [Option<&str>; 4]) -> Option<Call> {
+    let call = match (name, numbers) {
+        ("put", [Some(side), Some(place), Some(count), None]) => Call::Put {
             side: number(side)?,
             place: number(place)?,
             count: number(count)?,
         },
-        ["take", side, place, count] => Call::Take {
+        ("take", [Some(side), Some(place), Some(count), None]) => Call::Take {
             side: number(side)?,
             place: number(place)?,
             count: number(count)?,
         },
-        ["fire", side, transition] => Call::Fire {
+        ("fire", [Some(side), Some(transition), None, _]) => Call::Fire {
             side: number(side)?,
             transition: number(transition)?,
         },
-        ["follow", side, transition] => Call::Follow {
+        ("follow", [Some(side), Some(transition), None, _]) => Call::Follow {
             side: number(side)?,
             transition: number(transition)?,
         },
-        ["count", side, place] => Call::Count {
+        ("count", [Some(side), Some(place), None, _]) => Call::Count {
             side: number(side)?,
             place: number(place)?,
         },
-        ["compare"] => Call::Compare { room: MOST_SWAPS },
-        ["compare", room] => Call::Compare {
+        ("compare", [None, ..]) => Call::Compare { room: MOST_SWAPS },
+        ("compare", [Some(room), None, ..]) => Call::Compare {
             room: number(room)?,
         },
         _ => return None,

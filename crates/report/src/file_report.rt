@@ -51,6 +51,7 @@ fn put_judged(page: &mut Page, entries: [Swap; MOST_SWAPS], judged: Result<Verdi
 // Writes the report of a file over the front of the caller's bytes, and answers how many bytes it has. The bytes behind it stay as they were.
 // Refused where the caller's bytes are fewer than REPORT_SIZE; then they all stay as they were.
 // Kept: the text goes into the caller's bytes, with its length as the answer, since no call of the library takes memory.
+#[tactic(auto, using(crate::proofs::OneText::one_text))]
 pub fn report(bytes: &[u8], out: &mut [u8]) -> Result<usize, Fault>
     ensures reported { Reported bytes.now out.old out.new result }
     ensures one { OneText }

@@ -8,5 +8,5 @@ pub returns : goal.returns
 returns g c =
     let m = g.N.Net.meaning c.args.net.now in
     let few = (g.N.Net.lawful c.args.net.now).few_transitions in
-    let long : length c.loop-t.this-items ≡ c.transitions-count.result = search rules in
-    λ t l. front_holds (λ k x. Keeps m.places (transition m k) x) c.loop-t.this-items _ no_move (λ k r. c.loop-t.invariant k (omega arith)) t (omega (arith, long, c.transitions-count.ensures))
+    let long : length c.loop-t.this-items ≡ c.transitions.result = search rules in
+    λ t l. front_holds (λ k x. Keeps m.places (transition m k) x) c.loop-t.this-items _ no_move (λ k r. c.loop-t.invariant k (omega arith)) t (omega (arith, long, c.transitions.ensures))

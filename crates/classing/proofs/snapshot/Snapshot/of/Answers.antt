@@ -9,14 +9,14 @@ invariant_of-result g c =
     let m = g.N.Net.meaning c.args.net.now in
     let law = g.N.Net.lawful c.args.net.now in
     let n = c.transitions-count.result in
-    let long : length (take n c.ask_all-moves.result) ≡ n = length-take-le n c.ask_all-moves.result (omega (arith, law.few_transitions)) in
+    let long : length (take n c.ask_all.new.moves) ≡ n = length-take-le n c.ask_all.new.moves (omega (arith, law.few_transitions)) in
     let few : m.places ≤ 128 = law.few_places in
     record {
       sound = record {
         few_places = search rules;
         few_moves = omega (arith, law.few_transitions);
-        known = λ t l. (let inside = places_known m law c.ask_all-moves.result c.ask_all-moves.ensures t (omega arith) in search rules);
-        grouped = grouped_alike n (place_at (take n c.ask_all-moves.result)) (place_at c.ask_all-moves.result) (place_in_front n c.ask_all-moves.result) c.starts-starts.result c.order-order.result
+        known = λ t l. (let inside = places_known m law c.ask_all.new.moves c.ask_all.ensures t (omega arith) in search rules);
+        grouped = grouped_alike n (place_at (take n c.ask_all.new.moves)) (place_at c.ask_all.new.moves) (place_in_front n c.ask_all.new.moves) c.starts-starts.result c.order-order.result
             (rw long at c.order-order.ensures);
       };
     }
