@@ -11,7 +11,7 @@ use net::MOST_LABEL;
 pub(crate) fn times_in(targets: &[u8; WIDTH], x: u8) -> u8
     ensures { result ≡ times most_total targets.now x }
 {
-    // Kept: `filter` and `count` in place of this loop were proved, and with them the random net of bench/ took 2.65 times the baseline, where this loop is within the bar of 1.5.
+    // Kept: `filter` and `count` in place of this loop were proved, and with them the random net of bench/ took 2.65 times the baseline, where this loop takes 1.4 to 1.7.
     let mut k: u8 = 0;
     for target in targets {
         if x == *target {
